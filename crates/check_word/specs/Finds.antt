@@ -1,0 +1,18 @@
+-- What a check finds, for any generator of degree 16.
+-- Assumes nothing.
+use mathlib.Core.Path.{_≡_}
+use mathlib.Core.List.{List, _++_}
+use Prim.Native.Nat.{ℕ}
+use Rattle.bits.specs.Bits.{Below}
+use Rattle.bits.specs.Runs.{Altered}
+use Rattle.check_word.specs.Check.{checkBy, bytesOf}
+
+-- a message followed by its check word
+pub record Passes (g : ℕ) (s : List ℕ) : Type 0 where
+  pub message : List ℕ
+  pub followed : s ≡ message ++ bytesOf (checkBy g message)
+
+-- Of a string that passes, no change of at least one bit, all inside one run of n bits in the order sent, passes. The run may straddle
+-- bytes and reach into the check word.
+abbrev pub FindsRuns : ℕ → ℕ → Type 0
+FindsRuns g n = (x y : List ℕ) → Below 256 x → Altered n x y → (x ≡ y → ⊥) → Passes g x → Passes g y → ⊥
