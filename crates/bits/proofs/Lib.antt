@@ -1,0 +1,9 @@
+pub mod LawsBelow
+pub mod LawsBits
+pub mod LawsWords
+pub mod LawsFill
+pub mod LawsFields
+pub mod LawsFitting
+pub mod TakeTurns
+pub mod PutTurns
+pub mod Table

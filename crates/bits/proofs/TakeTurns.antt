@@ -1,0 +1,131 @@
+-- Bits come into an accumulator at its low end and go out as words at its high end: the state of `take_each`'s loop, and its two turns.
+-- Assumes nothing.
+use mathlib.Core.Path.{_≡_, refl, sym, ap, ap₂, _∙_, subst}
+use mathlib.Core.List.{List, [], _∷_, _++_, append-assoc, append-nil}
+use Prim.Native.Nat.{ℕ, zero, suc, _+_, _-_, _*_, _/_, _%_, _^_, _≤_, _<_}
+use native.Mathlib.Nat.{mod-lt, one-mul, sub-zero, suc-mul}
+use native.Mathlib.Numerals.{add-one}
+use native.Mathlib.Omega.{arith}
+use lib.Arith.{digits-lt}
+use lib.ListN.{length, getD, take, drop, set, length-set, take-append-drop}
+use lib.Seq.{drop-set-lt, drop-drop, take-suc-set, append-snoc}
+use lib.Pow.{pow-pos, pow-add, shr-lt, shl-exact}
+use Rattle.bits.specs.Bits.{bits, spell, words, Below}
+use Rattle.bits.specs.Fields.{wordsOf}
+use Rattle.bits.proofs.LawsBelow.{below-at}
+use Rattle.bits.proofs.LawsBits.{bits-join}
+use Rattle.bits.proofs.LawsWords.{spell-next, words-top}
+
+-- ---- what taking and putting share
+
+-- `1 << h` in a number of w bits
+pub one-shl : (w h : ℕ) → h < w → 1 * 2 ^ h % 2 ^ w ≡ 2 ^ h
+one-shl w h l = shl-exact 1 h w (omega arith) (omega arith) ∙ one-mul (2 ^ h)
+
+-- k bits more are taken in
+pub intake : (have k acc b : ℕ) (rest : List ℕ) → b < 2 ^ k → bits have acc ++ (bits k b ++ rest) ≡ bits (have + k) (acc * 2 ^ k + b) ++ rest
+intake have k acc b rest h =
+    sym (append-assoc (bits have acc) (bits k b) rest) ∙ ap (λ (l : List ℕ). l ++ rest) (sym (bits-join have k acc b h))
+
+pub intake-lt : (have k : ℕ) {acc b : ℕ} → acc < 2 ^ have → b < 2 ^ k → acc * 2 ^ k + b < 2 ^ (have + k)
+intake-lt have k {acc} {b} ha hb = subst (λ (x : ℕ). acc * 2 ^ k + b < x) (sym (pow-add 2 have k)) (digits-lt ha hb)
+
+-- the first `size` of `have` bits
+pub top-lt : (size have acc : ℕ) → size ≤ have → acc < 2 ^ have → acc / 2 ^ (have - size) < 2 ^ size
+top-lt size have acc h l =
+    let e : have ≡ size + (have - size) = omega arith in
+    shr-lt size (have - size) (subst (λ (m : ℕ). acc < 2 ^ m) e l)
+
+-- a word is stored at i: one word more stands in the room, and one fewer is to come
+pub emit : (whole : List ℕ) (size n : ℕ) (room : List ℕ) (i acc have : ℕ) (rest : List ℕ)
+    → i < n → i < length room → size ≤ have → acc < 2 ^ have
+    → whole ≡ take i room ++ words size (n - i) (bits have acc ++ rest)
+    → whole ≡ take (i + 1) (set room i (acc / 2 ^ (have - size))) ++ words size (n - (i + 1)) (bits (have - size) (acc % 2 ^ (have - size)) ++ rest)
+emit whole size n room i acc have rest more l h small says =
+    let v = acc / 2 ^ (have - size) in
+    let rest′ = words size (n - (i + 1)) (bits (have - size) (acc % 2 ^ (have - size)) ++ rest) in
+    let e : have ≡ size + (have - size) = omega arith in
+    let m : n - i ≡ suc (n - (i + 1)) = omega arith in
+    says
+    ∙ ap₂ (λ (x y : ℕ). take i room ++ words size x (bits y acc ++ rest)) m e
+    ∙ ap (λ (x : List ℕ). take i room ++ x) (words-top size (have - size) (n - (i + 1)) acc rest (subst (λ (m : ℕ). acc < 2 ^ m) e small))
+    ∙ sym (append-snoc (take i room) v rest′)
+    ∙ ap (λ (x : List ℕ). x ++ rest′) (sym (take-suc-set room i v l) ∙ ap (λ (x : ℕ). take x (set room i v)) (sym (add-one i)))
+
+-- one word fewer is left
+pub left : (n i size : ℕ) → i < n → (n - i) * size ≡ (n - (i + 1)) * size + size
+left n i size h =
+    let e : n - i ≡ suc (n - (i + 1)) = omega arith in
+    ap (λ (x : ℕ). x * size) e ∙ suc-mul (n - (i + 1)) size
+
+-- ---- taking
+
+pub record State (field : List ℕ) (size count : ℕ) (room₀ room : List ℕ) (acc have at i : ℕ) : Type 0 where
+  pub done : i ≤ count
+  pub read : at ≤ length field
+  pub short : have < size + 8
+  pub small : acc < 2 ^ have
+  pub enough : (count - i) * size ≤ have + (length field - at) * 8
+  pub says : words size count (spell 8 field) ≡ take i room ++ words size (count - i) (bits have acc ++ spell 8 (drop at field))
+  pub rest : drop i room ≡ drop i room₀
+  pub long : length room ≡ length room₀
+
+pub start : (field : List ℕ) (size count : ℕ) (room : List ℕ) → count * size ≤ length field * 8 → 1 ≤ size → State field size count room room 0 0 0 0
+unfolding bits
+start field size count room h p = record {
+  done = omega arith;
+  read = omega arith;
+  short = omega arith;
+  small = omega arith;
+  enough = simp sub-zero (omega arith);
+  says = simp sub-zero;
+  rest = refl;
+  long = refl;
+}
+
+module _ {field : List ℕ} {size count : ℕ} {room₀ room : List ℕ} {acc have at i : ℕ} (s : State field size count room₀ room acc have at i) (more : i < count) where
+  -- where a byte is wanted there is one
+  pub within : have < size → at < length field
+  within h = omega (arith, left count i size more)
+
+  pub read-turn : Below 256 field → have < size → State field size count room₀ room (acc * 256 + getD field at 0) (have + 8) (at + 1) i
+  read-turn bytes h =
+      let b : getD field at 0 < 2 ^ 8 = below-at 256 field (omega arith) bytes at in record {
+        done = s .done;
+        read = omega (arith, within h);
+        short = omega arith;
+        small = intake-lt have 8 (s .small) b;
+        enough = omega (arith, within h, s .enough);
+        says =
+            s .says
+            ∙ ap (λ (l : List ℕ). take i room ++ words size (count - i) l)
+            (ap (λ (l : List ℕ). bits have acc ++ l) (spell-next 8 field at (within h))
+            ∙ intake have 8 acc (getD field at 0) (spell 8 (drop (at + 1) field)) b);
+        rest = s .rest;
+        long = s .long;
+      }
+
+  pub write-turn : count ≤ length room₀ → size ≤ have
+      → State field size count room₀ (set room i (acc / 2 ^ (have - size))) (acc % 2 ^ (have - size)) (have - size) at (i + 1)
+  write-turn fits h = record {
+    done = omega arith;
+    read = s .read;
+    short = omega (arith, s .short);
+    small = mod-lt acc (pow-pos (have - size));
+    enough = omega (arith, left count i size more, s .enough);
+    says = emit _ size count room i acc have _ more (omega (arith, s .long)) h (s .small) (s .says);
+    rest = drop-set-lt (i + 1) room i _ (omega arith) ∙ sym (drop-drop 1 i room) ∙ ap (drop 1) (s .rest) ∙ drop-drop 1 i room₀;
+    long = length-set room i _ ∙ s .long;
+  }
+
+-- all words are written
+pub finish : {field : List ℕ} {size count : ℕ} {room₀ room : List ℕ} {acc have at i : ℕ} → State field size count room₀ room acc have at i
+    → count ≤ i → room ≡ wordsOf size count field ++ drop count room₀
+unfolding wordsOf words
+finish {field} {size} {count} {room₀} {room} {acc} {have} {at} {i} s h =
+    let e : i ≡ count = omega (arith, s .done) in
+    let z : count - i ≡ 0 = omega arith in
+    sym (take-append-drop i room)
+    ∙ ap₂ (λ (x y : List ℕ). x ++ y)
+    (sym (append-nil (take i room)) ∙ ap (λ (m : ℕ). take i room ++ words size m (bits have acc ++ spell 8 (drop at field))) (sym z) ∙ sym (s .says))
+    (s .rest ∙ ap (λ (m : ℕ). drop m room₀) e)
