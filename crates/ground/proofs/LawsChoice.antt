@@ -2,7 +2,7 @@
 -- it; where the test stands in the code itself, r ≡ b is `refl` and the other premise comes of `lt-ltb`, `eq-eqb` and their like.
 -- Assumes nothing.
 use mathlib.Core.Path.{_≡_, refl, sym, ap, _∙_, subst}
-use mathlib.Core.Bool.{Bool, true, false, _&&_}
+use mathlib.Core.Bool.{Bool, true, false, _&&_, _||_}
 use Rattle.ground.specs.Choice.{pick}
 
 pub yes : {X : Type 0} {r b : Bool} {x a : X} (d : X) → r ≡ b → r ≡ true → x ≡ a → x ≡ pick b a d
@@ -27,3 +27,7 @@ split false b h = let e : false ≡ true = h in (cc, cc)
 pub not-second : (a : Bool) {b : Bool} → b ≡ false → (a && b) ≡ false
 not-second true h = h
 not-second false h = refl
+
+pub neither : (a b : Bool) → (a || b) ≡ false → (a ≡ false) × (b ≡ false)
+neither true b h = let e : true ≡ false = h in (cc, cc)
+neither false b h = (refl, h)

@@ -1,0 +1,31 @@
+// The block header: three copies of which the passing ones must be equal, and what the common one says of its block.
+ghost use mathlib.Core.Path.{_≡_};
+ghost use Rattle.header.specs.Plans.{planOf};
+mod plans;
+mod says;
+
+// What a header asks for, with number 0; or a refusal's number and zeros. `words` is C, the data words before fill, and `bytes` the
+// length of the field.
+pub struct Plan {
+    pub number: u8,
+    pub block: u8,
+    pub version: u8,
+    pub size: u8,
+    pub records: u8,
+    pub words: usize,
+    pub bytes: usize,
+}
+
+// The plan of 28 header bytes, which the reader gives back and the writer and record access take.
+pub fn plan_of(header: &[u8]) -> Plan
+    ensures { λ r. ⌜ r ≡ planOf (now (header .entry)) ⌝ }
+{
+    if header.len() != says::HEADER_BYTES {
+        return plans::refused(ground::NO_HEADER);
+    }
+    let number = plans::refusal(header);
+    if number != ground::ACCEPTED {
+        return plans::refused(number);
+    }
+    plans::granted(header)
+}
