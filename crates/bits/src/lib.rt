@@ -3,6 +3,7 @@
 ghost use mathlib.Core.Path.{_≡_};
 ghost use lib.ListN.{length};
 ghost use Rattle.bits.specs.Fields.{takeAnswer, roomTaken, putAnswer, fieldPut, fillOf, allZero};
+
 mod fill;
 mod fitting;
 mod putting;

@@ -1,2 +1,4 @@
 pub mod Check
 pub mod Finds
+pub mod Eight
+pub mod Turn

@@ -3,22 +3,35 @@
 pub const ACCEPTED: u8 = 0;
 // Fewer than 90 bytes of block, or a lent header not of 28 bytes.
 pub const NO_HEADER: u8 = 1;
+
 pub const NO_COPY_PASSES: u8 = 2;
+
 pub const COPIES_DIFFER: u8 = 3;
 // An unknown block id, or a block number above 11.
 pub const UNKNOWN_BLOCK: u8 = 4;
+
 pub const UNKNOWN_VERSION: u8 = 5;
+
 pub const WRONG_SIZE: u8 = 6;
+
 pub const WRONG_COUNT: u8 = 7;
 // Bytes of a block, or words, not exactly the required number.
 pub const WRONG_LENGTH: u8 = 8;
+
 pub const SMALL_ROOM: u8 = 9;
+
 pub const CHECK_DISAGREES: u8 = 10;
+
 pub const FILL_NOT_ZERO: u8 = 11;
+
 pub const BAD_TAG: u8 = 12;
 // A block without records, no such record, or an open watch that expects no block 1 to 10.
 pub const NO_RECORD: u8 = 13;
+
 pub const LARGE_WORD: u8 = 14;
+
 pub const OTHER_FIELD: u8 = 15;
+
 pub const LONG_LIMIT: u8 = 16;
+
 pub const OFF_BOUNDARY: u8 = 17;

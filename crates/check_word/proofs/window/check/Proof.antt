@@ -1,0 +1,157 @@
+-- `check_word::window::check` meets its contract: the window stands for the register after i bytes, through both loops.
+-- Assumes nothing.
+use mathlib.Core.Path.{_≡_, refl, ap, _∙_, subst⁻¹}
+use mathlib.Core.List.{List, [], _∷_}
+use Prim.Native.Nat.{ℕ, _+_, _-_, _≤_}
+use native.Mathlib.Omega.{arith}
+use borrow.Author.Needs.{needs}
+use lib.ListN.{length}
+use Rattle.check_word.specs.Eight.{Stands}
+use Rattle.bits.proofs.LawsBelow.{below-all}
+use Rattle.check_word.specs.Turn.{raw, pushes}
+use Rattle.check_word.proofs.LawsTurn.{Holds, begins, goes-on, cons, at-zero}
+use Rattle.check_word.proofs.window.check.Statement.{statement}
+use Rattle.check_word.proofs.window.check.Tie as tie
+
+abbrev Inv-loop : tie.InvT-loop
+Inv-loop s w₀ i₀ w i = (i ≤ length s) × Holds s i w
+
+abbrev μ-loop : tie.MeasureT-loop
+μ-loop s w₀ i₀ w i = length s - i
+
+abbrev Inv-loop2 : tie.InvT-loop2
+Inv-loop2 s w₀ i₀ w i = (i ≤ length s) × Holds s i w
+
+abbrev μ-loop2 : tie.MeasureT-loop2
+μ-loop2 s w₀ i₀ w i = length s - i
+
+check-requires : tie.Need-check-requires Inv-loop μ-loop Inv-loop2 μ-loop2
+check-requires c κs = search needs
+
+returns : tie.Need-returns Inv-loop μ-loop Inv-loop2 μ-loop2
+returns c = c .check .ensures
+
+loop-holds : tie.Need-loop-holds Inv-loop μ-loop Inv-loop2 μ-loop2
+loop-holds c = (omega arith, begins (c .before .before .args .s .now))
+
+add-loop : tie.Need-add-loop Inv-loop μ-loop Inv-loop2 μ-loop2
+add-loop c = search needs
+
+block-requires : tie.Need-block-requires Inv-loop μ-loop Inv-loop2 μ-loop2
+block-requires c κs = search needs
+
+turn-requires : tie.Need-turn-requires Inv-loop μ-loop Inv-loop2 μ-loop2
+turn-requires c κs = search needs
+
+add-i : tie.Need-add-i Inv-loop μ-loop Inv-loop2 μ-loop2
+add-i c = search needs
+
+loop-less : tie.Need-loop-less Inv-loop μ-loop Inv-loop2 μ-loop2
+loop-less c = search needs
+
+loop-again : tie.Need-loop-again Inv-loop μ-loop Inv-loop2 μ-loop2
+loop-again c =
+    let l = c .before .before .before .loop in
+    let s = c .before .before .before .before .before .before .args .s .now in
+    let h : l .i + 128 ≤ length s = omega arith in (
+      omega arith,
+      subst⁻¹ (Holds s (l .i + 128)) (c .turn .ensures)
+          (goes-on 16 s (l .i) (l .w) (raw (c .before .block .result)) (below-all 256 s (λ k. c .before .before .before .before .before .shared-slice-known .given k .fits)) h (l .inv .1)
+          (c .before .block .ensures)),
+    )
+
+loop2-holds : tie.Need-loop2-holds Inv-loop μ-loop Inv-loop2 μ-loop2
+loop2-holds c = c .before .loop .inv
+
+add-loop2 : tie.Need-add-loop2 Inv-loop μ-loop Inv-loop2 μ-loop2
+add-loop2 c = search needs
+
+load-requires : tie.Need-load-requires Inv-loop μ-loop Inv-loop2 μ-loop2
+load-requires c κs = search needs
+
+add-load : tie.Need-add-load Inv-loop μ-loop Inv-loop2 μ-loop2
+add-load c = search needs
+
+load-requires-2 : tie.Need-load-requires-2 Inv-loop μ-loop Inv-loop2 μ-loop2
+load-requires-2 c κs = search needs
+
+add-load-2 : tie.Need-add-load-2 Inv-loop μ-loop Inv-loop2 μ-loop2
+add-load-2 c = search needs
+
+load-requires-3 : tie.Need-load-requires-3 Inv-loop μ-loop Inv-loop2 μ-loop2
+load-requires-3 c κs = search needs
+
+add-load-3 : tie.Need-add-load-3 Inv-loop μ-loop Inv-loop2 μ-loop2
+add-load-3 c = search needs
+
+load-requires-4 : tie.Need-load-requires-4 Inv-loop μ-loop Inv-loop2 μ-loop2
+load-requires-4 c κs = search needs
+
+turn4-requires : tie.Need-turn4-requires Inv-loop μ-loop Inv-loop2 μ-loop2
+turn4-requires c κs = search needs
+
+add-i-2 : tie.Need-add-i-2 Inv-loop μ-loop Inv-loop2 μ-loop2
+add-i-2 c = search needs
+
+loop2-less : tie.Need-loop2-less Inv-loop μ-loop Inv-loop2 μ-loop2
+loop2-less c = search needs
+
+loop2-again : tie.Need-loop2-again Inv-loop μ-loop Inv-loop2 μ-loop2
+loop2-again c =
+    let l = c .before .before .before .before .before .before .loop2 in
+    let s = c .before .before .before .before .before .before .before .before .before .before .before .args .s .now in
+    let h : l .i + 32 ≤ length s = omega arith in (
+      omega arith,
+      subst⁻¹ (Holds s (l .i + 32)) (c .turn4 .ensures)
+          (goes-on 4 s (l .i) (l .w)
+          (c .before .before .before .before .load .result ∷ c .before .before .before .load2 .result ∷ c .before .before .load3 .result ∷ c .before .load4 .result ∷ [])
+          (below-all 256 s (λ k. c .before .before .before .before .before .before .before .before .before .before .shared-slice-known .given k .fits)) h (l .inv .1)
+          (cons (c .before .before .before .before .load .ensures ∙ at-zero s (l .i)) (cons (c .before .before .before .load2 .ensures)
+          (cons (c .before .before .load3 .ensures) (cons (c .before .load4 .ensures) refl))))),
+    )
+
+last-requires : tie.Need-last-requires Inv-loop μ-loop Inv-loop2 μ-loop2
+last-requires c κs = search needs
+
+ends-requires : tie.Need-ends-requires Inv-loop μ-loop Inv-loop2 μ-loop2
+ends-requires c κs =
+    let l = c .before .before .loop2 in
+    let s = c .before .before .before .before .before .before .before .args .s .now in
+    (omega arith, subst⁻¹ (Stands s (l .i)) (c .last .ensures) (l .inv .1))
+
+returns-2 : tie.Need-returns-2 Inv-loop μ-loop Inv-loop2 μ-loop2
+returns-2 c = c .ends .ensures
+
+pub check-spec : {M : Type 1} → statement M
+check-spec =
+    tie.close
+    (tie.spec
+    Inv-loop
+    μ-loop
+    Inv-loop2
+    μ-loop2
+    check-requires
+    returns
+    loop-holds
+    add-loop
+    block-requires
+    turn-requires
+    add-i
+    loop-less
+    loop-again
+    loop2-holds
+    add-loop2
+    load-requires
+    add-load
+    load-requires-2
+    add-load-2
+    load-requires-3
+    add-load-3
+    load-requires-4
+    turn4-requires
+    add-i-2
+    loop2-less
+    loop2-again
+    last-requires
+    ends-requires
+    returns-2)

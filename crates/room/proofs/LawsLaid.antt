@@ -1,0 +1,84 @@
+-- Bytes laid one after the other are laid joined; one element stored is one element laid; a block of room is filled piece by piece.
+-- Assumes nothing.
+use mathlib.Core.Path.{_≡_, refl, sym, ap, ap₂, _∙_}
+use mathlib.Core.List.{List, [], _∷_, _++_, append-nil, append-assoc}
+use Prim.Native.Nat.{ℕ, suc, _+_, _-_, _≤_, _<_}
+use native.Mathlib.Nat.{add-zero}
+use native.Mathlib.Omega.{arith}
+use lib.ListN.{length, getD, take, drop, set, length-append, length-take, length-drop, length-set, take-append-drop}
+use lib.Seq.{take-suc, drop-cons, set-at, take-at, drop-at, length-take-le, drop-drop}
+use Rattle.room.specs.Laid.{laid}
+
+pub laid-nil : (r : List ℕ) (w : ℕ) → laid r w [] ≡ r
+laid-nil r w = ap (λ (k : ℕ). take w r ++ drop k r) (add-zero w) ∙ take-append-drop w r
+
+head-len : (r : List ℕ) (w : ℕ) (xs : List ℕ) → w ≤ length r → length (take w r ++ xs) ≡ w + length xs
+head-len r w xs h = length-append (take w r) xs ∙ ap (λ (k : ℕ). k + length xs) (length-take-le w r h)
+
+pub length-laid : (r : List ℕ) (w : ℕ) (xs : List ℕ) → w + length xs ≤ length r → length (laid r w xs) ≡ length r
+length-laid r w xs h =
+    omega (arith, length-append (take w r) (xs ++ drop (w + length xs) r), length-append xs (drop (w + length xs) r), length-drop (w + length xs) r, length-take-le w r (omega arith))
+
+pub take-laid : (r : List ℕ) (w : ℕ) (xs : List ℕ) → w ≤ length r → take (w + length xs) (laid r w xs) ≡ take w r ++ xs
+take-laid r w xs h = ap (take (w + length xs)) (sym (append-assoc (take w r) xs (drop (w + length xs) r))) ∙ take-at (take w r ++ xs) _ _ (head-len r w xs h)
+
+pub drop-laid : (r : List ℕ) (w : ℕ) (xs : List ℕ) → w ≤ length r → drop (w + length xs) (laid r w xs) ≡ drop (w + length xs) r
+drop-laid r w xs h = ap (drop (w + length xs)) (sym (append-assoc (take w r) xs (drop (w + length xs) r))) ∙ drop-at (take w r ++ xs) _ _ (head-len r w xs h)
+
+pub laid-more : (r : List ℕ) (w : ℕ) (xs ys : List ℕ) → w ≤ length r → laid (laid r w xs) (w + length xs) ys ≡ laid r w (xs ++ ys)
+laid-more r w xs ys h =
+    let e : w + length xs + length ys ≡ w + length (xs ++ ys) = omega (arith, length-append xs ys) in
+    ap₂ (λ (p q : List ℕ). p ++ (ys ++ q)) (take-laid r w xs h)
+    (sym (drop-drop (length ys) (w + length xs) (laid r w xs)) ∙ ap (drop (length ys)) (drop-laid r w xs h) ∙ drop-drop (length ys) (w + length xs) r)
+    ∙ append-assoc (take w r) xs (ys ++ drop (w + length xs + length ys) r)
+    ∙ ap (λ (l : List ℕ). take w r ++ l) (sym (append-assoc xs ys (drop (w + length xs + length ys) r)))
+    ∙ ap (λ (k : ℕ). take w r ++ ((xs ++ ys) ++ drop k r)) e
+
+-- one element stored is one element laid
+pub laid-set : (r : List ℕ) (w a : ℕ) → w < length r → set r w a ≡ laid r w (a ∷ [])
+laid-set r w a h =
+    let e : suc w ≡ w + 1 = omega arith in
+    ap (λ (l : List ℕ). set l w a) (sym (take-append-drop w r) ∙ ap (λ (l : List ℕ). take w r ++ l) (drop-cons r w 0 h))
+    ∙ set-at (take w r) _ _ a w (length-take-le w r (omega arith))
+    ∙ ap (λ (k : ℕ). take w r ++ (a ∷ drop k r)) e
+
+pub laid-snoc : (r : List ℕ) (w : ℕ) (xs : List ℕ) (a : ℕ) → w + length xs < length r → set (laid r w xs) (w + length xs) a ≡ laid r w (xs ++ (a ∷ []))
+laid-snoc r w xs a h = laid-set (laid r w xs) (w + length xs) a (omega (arith, length-laid r w xs (omega arith))) ∙ laid-more r w xs (a ∷ []) (omega arith)
+
+-- what is still to be written: `all` is what stands before `w`, and `rest`; behind `w` the room is as it was
+pub record Written (all room₀ room : List ℕ) (w : ℕ) (rest : List ℕ) : Type 0 where
+  pub says : all ≡ take w room ++ rest
+  pub keeps : drop w room ≡ drop w room₀
+  pub long : length room ≡ length room₀
+  pub within : w ≤ length room
+
+pub start : (all room : List ℕ) → Written all room room 0 all
+start all room = record { says = refl; keeps = refl; long = refl; within = omega arith }
+
+pub write : {all room₀ room : List ℕ} {w : ℕ} {rest : List ℕ} (xs : List ℕ) → Written all room₀ room w (xs ++ rest) → w + length xs ≤ length room → Written all room₀ (laid room w xs) (w + length xs) rest
+write {all} {room₀} {room} {w} {rest} xs s h = record {
+  says = s .says ∙ sym (append-assoc (take w room) xs rest) ∙ ap (λ (l : List ℕ). l ++ rest) (sym (take-laid room w xs (s .within)));
+  keeps = drop-laid room w xs (s .within) ∙ sym (drop-drop (length xs) w room) ∙ ap (drop (length xs)) (s .keeps) ∙ drop-drop (length xs) w room₀;
+  long = length-laid room w xs h ∙ s .long;
+  within = omega (arith, length-laid room w xs h);
+}
+
+pub finish : {all room₀ room : List ℕ} {w : ℕ} → Written all room₀ room w [] → (length all ≡ w) × (room ≡ all ++ drop w room₀)
+finish {all} {room₀} {room} {w} s =
+    let e : all ≡ take w room = s .says ∙ append-nil (take w room) in
+    (ap length e ∙ length-take-le w room (s .within), sym (take-append-drop w room) ∙ ap₂ (λ (p q : List ℕ). p ++ q) (sym e) (s .keeps))
+
+-- a turn of the loop that lays
+pub lay-turn : (src r : List ℕ) (at i : ℕ) → i < length src → at + i < length r
+    → set (laid r at (take i src)) (at + i) (getD src i 0) ≡ laid r at (take (i + 1) src)
+lay-turn src r at i h k =
+    let l : length (take i src) ≡ i = length-take-le i src (omega arith) in
+    let e : at + i ≡ at + length (take i src) = omega arith in
+    let f : suc i ≡ i + 1 = omega arith in
+    ap (λ (m : ℕ). set (laid r at (take i src)) m (getD src i 0)) e
+    ∙ laid-snoc r at (take i src) (getD src i 0) (omega arith)
+    ∙ ap (laid r at) (sym (take-suc src i 0 h) ∙ ap (λ (m : ℕ). take m src) f)
+
+-- bytes laid behind bytes laid
+pub laid-then : (r : List ℕ) (w : ℕ) (xs ys : List ℕ) (k : ℕ) {r′ r″ : List ℕ} → r′ ≡ laid r w xs → r″ ≡ laid r′ k ys → k ≡ w + length xs → w ≤ length r → r″ ≡ laid r w (xs ++ ys)
+laid-then r w xs ys k {r′} {r″} e₁ e₂ e h = e₂ ∙ ap₂ (λ (q : List ℕ) (m : ℕ). laid q m ys) e₁ e ∙ laid-more r w xs ys h
