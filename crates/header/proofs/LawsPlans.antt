@@ -1,19 +1,18 @@
 -- What holds of a header that no ground refuses, and that its plan is what it asks for.
 -- Assumes nothing.
 use Prim.Native.Nat.{ℕ, _<_, _≤_}
-use mathlib.Core.Path.{_≡_, refl, sym, ap, _∙_}
+use mathlib.Core.Path.{_≡_, refl, sym, ap}
 use mathlib.Core.Bool.{Bool, true, not, _||_}
-use mathlib.Core.List.{List, [], _∷_}
-use lib.Dec.{eqb, ltb}
+use mathlib.Core.List.{List}
+use lib.Dec.{ltb}
 use lib.ListN.{length}
 use borrow.Author.Tests.{lt-ltb, le-ltb, ltb-false, eqb-true, eq-eqb, ne-eqb, not-false}
-use Rattle.ground.specs.Choice.{pick}
-use Rattle.ground.specs.Grounds.{_when_, firstOf}
+use Rattle.ground.specs.Grounds.{firstOf}
 use Rattle.ground.proofs.LawsChoice.{yes, no, neither}
-use Rattle.ground.proofs.LawsGrounds.{first-none}
+use Rattle.ground.proofs.LawsGrounds.{NoneHolds}
 use Rattle.row.specs.Rows.{permits}
 use Rattle.header.specs.Says.{headerLength, blockIn, sizeIn, countIn, extraWords, wordsIn, versionIn, rowIn}
-use Rattle.header.specs.Plans.{unknownBlock, unknownVersion, wrongSize, wrongCount, headerRefusal, planRefusal, refusedPlan, grantedPlan, planOf}
+use Rattle.header.specs.Plans.{wrongCount, headerGrounds, planGrounds}
 
 pub record Clear (h : List ℕ) : Type 0 where
   pub block : blockIn h ≤ 11
@@ -22,10 +21,8 @@ pub record Clear (h : List ℕ) : Type 0 where
   pub enough : extraWords ≤ countIn h
   pub counted : permits (rowIn h) (wordsIn h) ≡ true
 
-pub clear : (h : List ℕ) → headerRefusal h ≡ 0 → Clear h
-unfolding headerRefusal
-clear h e =
-    let n = first-none ((4 when unknownBlock h) ∷ (5 when unknownVersion h) ∷ (6 when wrongSize h) ∷ (7 when wrongCount h) ∷ []) refl e in
+pub clear : (h : List ℕ) → NoneHolds (headerGrounds h) → Clear h
+clear h n =
     let m = neither (ltb (countIn h) extraWords) _ (n .1 .1 .1 .0) in
     record {
       block = ltb-false 11 (blockIn h) (n .0);
@@ -42,17 +39,9 @@ few-words h l = sym (ap (λ (t : Bool). t || not (permits (rowIn h) (wordsIn h))
 pub enough-words : (h : List ℕ) → extraWords ≤ countIn h → not (permits (rowIn h) (wordsIn h)) ≡ wrongCount h
 enough-words h l = sym (ap (λ (t : Bool). t || not (permits (rowIn h) (wordsIn h))) (le-ltb (countIn h) extraWords l))
 
--- the two ends of a plan
-pub plan-refused : (h : List ℕ) {n : ℕ} → planRefusal h ≡ n → (n ≡ 0 → ⊥) → refusedPlan n ≡ planOf h
-unfolding planOf
-plan-refused h e f = no _ refl (ne-eqb (planRefusal h) 0 (λ z. f (sym e ∙ z))) (ap refusedPlan (sym e))
+-- the first ground of a plan
+pub short-first : (h : List ℕ) → (length h ≡ headerLength → ⊥) → firstOf (planGrounds h) ≡ 1
+short-first h f = sym (yes _ refl (ap not (ne-eqb (length h) headerLength f)) refl)
 
-pub plan-granted : (h : List ℕ) → planRefusal h ≡ 0 → grantedPlan h ≡ planOf h
-unfolding planOf
-plan-granted h e = yes _ refl (eq-eqb (planRefusal h) 0 e) refl
-
-pub short-refused : (h : List ℕ) → (length h ≡ headerLength → ⊥) → planRefusal h ≡ 1
-short-refused h f = sym (yes _ refl (ap not (ne-eqb (length h) headerLength f)) refl)
-
-pub long-refusal : (h : List ℕ) → length h ≡ headerLength → planRefusal h ≡ headerRefusal h
-long-refusal h l = sym (no _ refl (ap not (eq-eqb (length h) headerLength l)) refl)
+pub long-first : (h : List ℕ) → length h ≡ headerLength → firstOf (planGrounds h) ≡ firstOf (headerGrounds h)
+long-first h l = sym (no _ refl (ap not (eq-eqb (length h) headerLength l)) refl)

@@ -8,6 +8,7 @@ use lib.ListN.{getD}
 use Rattle.ground.specs.Choice.{pick}
 use Rattle.row.specs.declared.Row.{Row}
 use Rattle.row.specs.Rows.{rowOf}
+use Rattle.row.specs.Field.{fieldBytes}
 
 -- a header as it is given back and lent: its first 28 bytes, without the check word
 abbrev pub headerLength : ℕ
@@ -47,3 +48,7 @@ versionIn header = word 8 header
 -- the row that a header asks for
 abbrev pub rowIn : List ℕ → Row
 rowIn header = rowOf (blockIn header) (versionIn header) (sizeIn header)
+
+-- the bytes of the field that it asks for
+abbrev pub bytesIn : List ℕ → ℕ
+bytesIn header = fieldBytes (blockIn header) (wordsIn header)

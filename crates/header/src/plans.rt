@@ -1,10 +1,11 @@
 // The grounds that refuse a header, and what one that none refuses asks for.
 ghost use mathlib.Core.Path.{_≡_};
 ghost use lib.ListN.{length};
+ghost use Rattle.ground.specs.Grounds.{firstOf};
 ghost use Rattle.header.specs.Says.{headerLength};
-ghost use Rattle.header.specs.Plans.{unknownBlock, unknownVersion, wrongSize, wrongCount, headerRefusal, refusedPlan, grantedPlan};
-use crate::says;
+ghost use Rattle.header.specs.Plans.{unknownBlock, unknownVersion, wrongSize, wrongCount, headerGrounds, refusedPlan, grantedPlan};
 use crate::Plan;
+use crate::says;
 
 const LAST_BLOCK: u8 = 11;
 
@@ -49,7 +50,7 @@ fn wrong_count(header: &[u8]) -> bool
 // The first ground that refuses a header.
 pub fn refusal(header: &[u8]) -> u8
     requires { ⌜ length (now header) ≡ headerLength ⌝ }
-    ensures { λ r. ⌜ r ≡ headerRefusal (now (header .entry)) ⌝ }
+    ensures { λ r. ⌜ r ≡ firstOf (headerGrounds (now (header .entry))) ⌝ }
 {
     if unknown_block(header) {
         return ground::UNKNOWN_BLOCK;
@@ -82,7 +83,7 @@ pub fn refused(number: u8) -> Plan
 
 pub fn granted(header: &[u8]) -> Plan
     requires { ⌜ length (now header) ≡ headerLength ⌝ }
-    requires { ⌜ headerRefusal (now header) ≡ 0 ⌝ }
+    requires { ⌜ firstOf (headerGrounds (now header)) ≡ 0 ⌝ }
     ensures { λ r. ⌜ r ≡ grantedPlan (now (header .entry)) ⌝ }
 {
     let block = says::block_in(header);

@@ -18,13 +18,18 @@ pub record Takes (block version size count : ℕ) : Type 0 where
 abbrev pub DecidesTable : Type 0
 DecidesTable = (block version size count : ℕ) → Takes block version size count ↔ Suits block version size count
 
+-- the bytes of the longest field: the specification's largest block is 262,288 bits with its synchronization code, header and check word
+abbrev pub longestField : ℕ
+longestField = 31440
+
 -- a field of so many bytes holds so many words of a size from 1 to 16
 pub record Held (size count bytes : ℕ) : Type 0 where
   pub low : 1 ≤ size
   pub high : size ≤ 16
   pub fits : count * size ≤ bytes * 8
+  pub short : bytes ≤ longestField
 
--- the words that suit a block fit its field
+-- the words that suit a block fit its field, which is no longer than that
 abbrev pub WordsHeld : Type 0
 WordsHeld = (block version size count : ℕ) → Suits block version size count → Held size count (fieldBytes block count)
 

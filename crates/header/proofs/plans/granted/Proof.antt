@@ -1,6 +1,9 @@
 -- `granted` makes the plan of what the header says. No ground refuses it, so the extra words can be taken off.
 -- Assumes nothing.
+use mathlib.Core.Path.{refl}
 use native.Mathlib.Omega.{arith}
+use Rattle.ground.proofs.LawsGrounds.{first-none}
+use Rattle.header.specs.Plans.{headerGrounds}
 use Rattle.header.proofs.LawsPlans.{clear}
 use borrow.Author.Needs.{needs}
 use Rattle.header.proofs.plans.granted.Statement.{statement}
@@ -18,7 +21,7 @@ count-in-requires c κs = search needs
 sub-words : tie.Need-sub-words
 sub-words c =
     let s = c .before .before .before .before in
-    omega (arith, clear (s .args .header .now) (s .pre .1) .enough, c .count-in .ensures)
+    omega (arith, clear (s .args .header .now) (first-none (headerGrounds (s .args .header .now)) refl (s .pre .1)) .enough, c .count-in .ensures)
 
 shared-slice-read-t7 : tie.Need-shared-slice-read-t7
 shared-slice-read-t7 c = search needs

@@ -2,7 +2,6 @@
 -- Assumes nothing.
 use mathlib.Core.Path.{refl}
 use Rattle.ground.proofs.LawsChoice.{yes, no}
-use Rattle.header.specs.Plans.{headerRefusal}
 use borrow.Author.Needs.{needs}
 use Rattle.header.proofs.plans.refusal.Statement.{statement}
 use Rattle.header.proofs.plans.refusal.Tie as tie
@@ -11,14 +10,12 @@ unknown-block-requires : tie.Need-unknown-block-requires
 unknown-block-requires c κs = search needs
 
 returns : tie.Need-returns
-unfolding headerRefusal
 returns c = yes _ (c .before .unknown-block .ensures) (c .if1 .taken) refl
 
 unknown-version-requires : tie.Need-unknown-version-requires
 unknown-version-requires c κs = search needs
 
 returns-2 : tie.Need-returns-2
-unfolding headerRefusal
 returns-2 c =
     let b = c .before .before in
     no _ (b .before .unknown-block .ensures) (b .if1 .left)
@@ -28,7 +25,6 @@ wrong-size-requires : tie.Need-wrong-size-requires
 wrong-size-requires c κs = search needs
 
 returns-3 : tie.Need-returns-3
-unfolding headerRefusal
 returns-3 c =
     let b = c .before .before in
     let a = b .before .before in
@@ -40,7 +36,6 @@ wrong-count-requires : tie.Need-wrong-count-requires
 wrong-count-requires c κs = search needs
 
 returns-4 : tie.Need-returns-4
-unfolding headerRefusal
 returns-4 c =
     let d = c .before .before in
     let b = d .before .before in
@@ -51,7 +46,6 @@ returns-4 c =
     (yes _ (c .before .wrong-count .ensures) (c .if4 .taken) refl)))
 
 returns-5 : tie.Need-returns-5
-unfolding headerRefusal
 returns-5 c =
     let d = c .before .before in
     let b = d .before .before in

@@ -1,7 +1,7 @@
 -- `wrong_count` takes the extra words off before it asks the row, where there are so many.
 -- Assumes nothing.
 use mathlib.Core.Path.{ap, _∙_}
-use mathlib.Core.Bool.{Bool, not}
+use mathlib.Core.Bool.{not}
 use Prim.Native.Nat.{_-_}
 use native.Mathlib.Omega.{arith}
 use Rattle.row.specs.Rows.{permits}
