@@ -1,1 +1,2 @@
 pub mod LawsChoice
+pub mod LawsGrounds

@@ -1,0 +1,95 @@
+-- The promises of the header: both answers go by the first ground that holds, and none holds exactly where the facts do.
+-- Assumes nothing.
+use Prim.Native.Nat.{ℕ}
+use mathlib.Core.Path.{_≡_, refl, sym, _∙_}
+use mathlib.Core.List.{List}
+use native.Mathlib.Omega.{arith}
+use lib.ListN.{length, getD, set, length-set}
+use lib.Seq.{getD-set-other}
+use borrow.Author.Tests.{eqb-true, not-false}
+use Rattle.ground.specs.Grounds.{firstOf}
+use Rattle.ground.proofs.LawsGrounds.{accepts, refuses, reads-number, none-first, first-none}
+use Rattle.bits.specs.Bits.{Below}
+use Rattle.row.specs.Field.{fieldBytes}
+use Rattle.row.proofs.LawsRow.{row-records}
+use Rattle.header.specs.declared.Common.{Common}
+use Rattle.header.specs.declared.Plan.{Plan}
+use Rattle.header.specs.Says.{headerLength, blockIn, sizeIn, wordsIn, versionIn}
+use Rattle.header.specs.Copies.{copyAt, commonIn, copiesGrounds, foundCommon, refusedCommon, commonOf}
+use Rattle.header.specs.Plans.{planGrounds, headerGrounds, grantedPlan, refusedPlan, planOf}
+use Rattle.header.specs.Agreed.{Agreed}
+use Rattle.header.specs.Asks.{Asks}
+use Rattle.header.specs.Promises.{agreedCommon, ReadsCommon, askedPlan, GrantsAsked, MarkUnread}
+use Rattle.header.proofs.LawsAgreed.{none-agreed, agreed-none}
+use Rattle.header.proofs.LawsPlans.{long-first}
+use Rattle.header.proofs.LawsAsks.{none-asks, asks-none, asked-block, asked-words}
+
+-- ---- the copies
+
+module _ (block : List ℕ) where
+  abbrev found : Common
+  found = foundCommon (copyAt 0 block) (copyAt 1 block) (copyAt 2 block)
+
+  pub common-number : commonOf block .number ≡ firstOf (copiesGrounds block)
+  unfolding commonOf
+  common-number = reads-number found refusedCommon (λ (r : Common). r .number) refl (λ n. refl) (firstOf (copiesGrounds block))
+
+  pub common-found : firstOf (copiesGrounds block) ≡ 0 → commonOf block ≡ found
+  unfolding commonOf
+  common-found e = sym (accepts found refusedCommon e)
+
+  common-refused : (commonOf block .number ≡ 0 → ⊥) → commonOf block ≡ refusedCommon (commonOf block .number)
+  unfolding commonOf
+  common-refused f = sym (refuses found refusedCommon (sym common-number) f)
+
+  common-given : (c : List ℕ) → Below 256 block → Agreed block c → commonOf block ≡ agreedCommon block c
+  common-given c b g =
+      let n = agreed-none block b g in
+      common-found (none-first (copiesGrounds block) (n .0)) ∙ (λ i. agreedCommon block (n .1 i))
+
+pub reads-common : ReadsCommon
+reads-common =
+    record {
+      given = common-given;
+      only = λ block b e. (commonIn block, none-agreed block b (first-none (copiesGrounds block) refl (sym (common-number block) ∙ e)));
+      zeros = common-refused;
+    }
+
+-- ---- the header
+
+module _ (h : List ℕ) where
+  pub plan-number : planOf h .number ≡ firstOf (planGrounds h)
+  unfolding planOf
+  plan-number = reads-number (grantedPlan h) refusedPlan (λ (p : Plan). p .number) refl (λ n. refl) (firstOf (planGrounds h))
+
+  pub plan-granted : firstOf (planGrounds h) ≡ 0 → planOf h ≡ grantedPlan h
+  unfolding planOf
+  plan-granted e = sym (accepts (grantedPlan h) refusedPlan e)
+
+  plan-refused : (planOf h .number ≡ 0 → ⊥) → planOf h ≡ refusedPlan (planOf h .number)
+  unfolding planOf
+  plan-refused f = sym (refuses (grantedPlan h) refusedPlan (sym plan-number) f)
+
+  plan-asked : (b v w C : ℕ) → length h ≡ headerLength → Asks h b v w C → planOf h ≡ askedPlan b v w C
+  plan-asked b v w C l a =
+      let eb = asked-block a in
+      let eC = asked-words a in
+      let er = row-records (blockIn h) (versionIn h) (sizeIn h) in
+      plan-granted (long-first h l ∙ none-first (headerGrounds h) (asks-none a))
+      ∙ (λ i. record { number = 0; block = blockIn h; version = versionIn h; size = sizeIn h; records = er i; words = wordsIn h; bytes = fieldBytes (blockIn h) (wordsIn h) })
+      ∙ (λ i. askedPlan (eb i) (a .version i) (a .size i) (eC i))
+
+  plan-only : planOf h .number ≡ 0 → (length h ≡ headerLength) × Asks h (blockIn h) (versionIn h) (sizeIn h) (wordsIn h)
+  plan-only e =
+      let n = first-none (planGrounds h) refl (sym plan-number ∙ e) in
+      (eqb-true (length h) headerLength (not-false _ (n .0)), none-asks h (n .1))
+
+pub grants-asked : GrantsAsked
+grants-asked = record { given = plan-asked; only = plan-only; zeros = plan-refused }
+
+-- no word that is read is word 9
+pub mark-unread : MarkUnread
+unfolding planOf
+mark-unread h mark =
+    let kept : (j : ℕ) → (j ≡ 8 → ⊥) → getD (set h 8 mark) j 0 ≡ getD h j 0 = λ j f. getD-set-other h 8 j mark 0 f in
+    simp (length-set h 8 mark, kept 0 (λ e. omega arith), kept 1 (λ e. omega arith), kept 2 (λ e. omega arith), kept 3 (λ e. omega arith), kept 7 (λ e. omega arith))

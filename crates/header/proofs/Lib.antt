@@ -1,0 +1,6 @@
+pub mod LawsSame
+pub mod LawsCopies
+pub mod LawsPlans
+pub mod LawsAgreed
+pub mod LawsAsks
+pub mod KeepsHeader

@@ -1,0 +1,42 @@
+-- What reading the copies and reading a header promise.
+-- Assumes nothing.
+use Prim.Native.Nat.{ℕ}
+use mathlib.Core.Path.{_≡_}
+use mathlib.Core.List.{List}
+use lib.ListN.{length, take, set}
+use Rattle.bits.specs.Bits.{Below}
+use Rattle.check_word.specs.Check.{passes}
+use Rattle.row.specs.Rows.{recordsIn}
+use Rattle.row.specs.Field.{fieldBytes}
+use Rattle.header.specs.declared.Common.{Common}
+use Rattle.header.specs.declared.Plan.{Plan}
+use Rattle.header.specs.Says.{headerLength, blockIn, sizeIn, wordsIn, versionIn}
+use Rattle.header.specs.Copies.{copyAt, commonOf, refusedCommon}
+use Rattle.header.specs.Plans.{planOf, refusedPlan}
+use Rattle.header.specs.Agreed.{Agreed}
+use Rattle.header.specs.Asks.{Asks}
+
+-- the header is that common copy, given back as its first 28 bytes, with which copies passed
+abbrev pub agreedCommon : (block c : List ℕ) → Common
+agreedCommon block c =
+    record { number = 0; header = take headerLength c; first = passes (copyAt 0 block); second = passes (copyAt 1 block); third = passes (copyAt 2 block) }
+
+-- the copies of a block, which is bytes, give a header exactly where they agree on one; a refusal is its number and zeros
+pub record ReadsCommon : Type 0 where
+  pub given : (block c : List ℕ) → Below 256 block → Agreed block c → commonOf block ≡ agreedCommon block c
+  pub only : (block : List ℕ) → Below 256 block → commonOf block .number ≡ 0 → (c : List ℕ) × Agreed block c
+  pub zeros : (block : List ℕ) → (commonOf block .number ≡ 0 → ⊥) → commonOf block ≡ refusedCommon (commonOf block .number)
+
+-- the plan of block b, version v, with C words of w bits
+abbrev pub askedPlan : (b v w C : ℕ) → Plan
+askedPlan b v w C = record { number = 0; block = b; version = v; size = w; records = recordsIn b v; words = C; bytes = fieldBytes b C }
+
+-- 28 bytes have a plan exactly where they ask for a block, and it is of what they ask for; a refusal is its number and zeros
+pub record GrantsAsked : Type 0 where
+  pub given : (h : List ℕ) (b v w C : ℕ) → length h ≡ headerLength → Asks h b v w C → planOf h ≡ askedPlan b v w C
+  pub only : (h : List ℕ) → planOf h .number ≡ 0 → (length h ≡ headerLength) × Asks h (blockIn h) (versionIn h) (sizeIn h) (wordsIn h)
+  pub zeros : (h : List ℕ) → (planOf h .number ≡ 0 → ⊥) → planOf h ≡ refusedPlan (planOf h .number)
+
+-- data marked not valid is read like any other: what word 9 holds changes no plan
+abbrev pub MarkUnread : Type 0
+MarkUnread = (h : List ℕ) (mark : ℕ) → planOf (set h 8 mark) ≡ planOf h

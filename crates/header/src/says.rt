@@ -1,0 +1,56 @@
+// What the words of a header say (504-02, Table 3-5).
+ghost use mathlib.Core.Path.{_≡_};
+ghost use Prim.Native.Nat.{_<_};
+ghost use lib.ListN.{length};
+ghost use Rattle.header.specs.Says.{headerLength, numberOf, blockIn, countIn, rowIn};
+use row::Row;
+
+pub const HEADER_BYTES: usize = 28;
+
+// The bytes that hold words 1, 2, 3 with 4, and 8.
+pub const ID: usize = 0;
+
+pub const SIZE: usize = 1;
+
+pub const COUNT: usize = 2;
+
+pub const VERSION: usize = 7;
+
+// The number of a block id; 255 for one that no block has.
+fn number_of(id: u8) -> u8
+    ensures { λ r. ⌜ r ≡ numberOf id ⌝ }
+{
+    match id {
+        240 => 0,
+        1..=11 => id,
+        _ => 255,
+    }
+}
+
+pub fn block_in(header: &[u8]) -> u8
+    requires { ⌜ length (now header) ≡ headerLength ⌝ }
+    ensures { λ r. ⌜ r ≡ blockIn (now (header .entry)) ⌝ }
+{
+    number_of(header[ID])
+}
+
+fn wide(byte: u8) -> u32
+    ensures { λ r. ⌜ (r ≡ byte) × (r < 256) ⌝ }
+{
+    byte as u32
+}
+
+// As it stands there: of the field's words and two more.
+pub fn count_in(header: &[u8]) -> u32
+    requires { ⌜ length (now header) ≡ headerLength ⌝ }
+    ensures { λ r. ⌜ r ≡ countIn (now (header .entry)) ⌝ }
+{
+    wide(header[COUNT]) * 256 + wide(header[COUNT + 1])
+}
+
+pub fn row_in(header: &[u8]) -> Row
+    requires { ⌜ length (now header) ≡ headerLength ⌝ }
+    ensures { λ r. ⌜ r ≡ rowIn (now (header .entry)) ⌝ }
+{
+    row::row_of(block_in(header), header[VERSION], header[SIZE])
+}

@@ -1,0 +1,3 @@
+pub mod LawsRow
+pub mod LawsField
+pub mod KeepsRows

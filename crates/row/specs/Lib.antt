@@ -1,0 +1,5 @@
+pub mod Pixels
+pub mod Rows
+pub mod Field
+pub mod Suits
+pub mod Promises

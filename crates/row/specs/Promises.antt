@@ -1,0 +1,43 @@
+-- What the rows promise: the decision over block numbers is the printed table, and a field holds its words.
+-- Assumes nothing.
+use Prim.Native.Nat.{ℕ, _*_, _%_, _≤_}
+use mathlib.Core.Path.{_≡_}
+use mathlib.Core.Logic.{_↔_}
+use mathlib.Core.Bool.{true}
+use Rattle.row.specs.Pixels.{imageSize}
+use Rattle.row.specs.Rows.{rowOf, permits}
+use Rattle.row.specs.Field.{fieldBytes, fillBits}
+use Rattle.row.specs.Suits.{Suits}
+
+-- the decision takes a size and a count: the size is the row's, and the row permits the count
+pub record Takes (block version size count : ℕ) : Type 0 where
+  pub sized : rowOf block version size .size ≡ size
+  pub counted : permits (rowOf block version size) count ≡ true
+
+-- it does so exactly where the table says that they suit the block
+abbrev pub DecidesTable : Type 0
+DecidesTable = (block version size count : ℕ) → Takes block version size count ↔ Suits block version size count
+
+-- the bytes of the longest field: the specification's largest block is 262,288 bits with its synchronization code, header and check word
+abbrev pub longestField : ℕ
+longestField = 31440
+
+-- a field of so many bytes holds so many words of a size from 1 to 16
+pub record Held (size count bytes : ℕ) : Type 0 where
+  pub low : 1 ≤ size
+  pub high : size ≤ 16
+  pub fits : count * size ≤ bytes * 8
+  pub short : bytes ≤ longestField
+
+-- the words that suit a block fit its field, which is no longer than that
+abbrev pub WordsHeld : Type 0
+WordsHeld = (block version size count : ℕ) → Suits block version size count → Held size count (fieldBytes block count)
+
+-- every field is an even number of bytes
+abbrev pub FieldsEven : Type 0
+FieldsEven = (block count : ℕ) → fieldBytes block count % 2 ≡ 0
+
+-- a block with so many image words has a field of so many bytes, of which so many bits are fill
+pub record Measures (block count bytes fill : ℕ) : Type 0 where
+  pub long : fieldBytes block count ≡ bytes
+  pub rest : fillBits block imageSize count ≡ fill

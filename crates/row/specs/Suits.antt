@@ -1,0 +1,18 @@
+-- The table of field sizes as it is printed: which word size and which count suit a block number. Every version has the same rows so far.
+-- Assumes nothing.
+use Prim.Native.Nat.{ℕ, _+_, _*_, _≤_}
+use Rattle.row.specs.Pixels.{narrowest, widest}
+
+-- n is 1 to 5,236
+pub record Scan (n : ℕ) : Type 0 where
+  pub narrow : narrowest ≤ n
+  pub wide : n ≤ widest
+
+pub data Suits : (block version size count : ℕ) → Type 0 where
+  zeroth : {v : ℕ} → Suits 0 v 8 8040
+  first : {v n : ℕ} → Scan n → Suits 1 v 10 (4 * (16 + n))
+  second : {v n : ℕ} → Scan n → Suits 2 v 10 (3 * (16 + n))
+  others : {b v n : ℕ} → 3 ≤ b → b ≤ 10 → Scan n → Suits b v 10 (16 + 4 * n)
+  last6 : {v : ℕ} → Suits 11 v 6 10720
+  last8 : {v : ℕ} → Suits 11 v 8 8040
+  last10 : {v : ℕ} → Suits 11 v 10 6432

@@ -1,0 +1,171 @@
+// The table of field sizes: for a block number the size of its words, its records and the counts of words that it permits, and the
+// length of the field that holds them.
+ghost use mathlib.Core.Path.{_≡_};
+ghost use Prim.Native.Nat.{_<_};
+ghost use Rattle.row.specs.Pixels.{visibleOf, recordWords};
+ghost use Rattle.row.specs.Rows.{fixedRow, infraredRow, visibleRow, lastRow, noRow, rowOf, permits};
+ghost use Rattle.row.specs.Field.{fieldBits, fieldBytes};
+
+// Pixels on the two scales of a scan. Numbers of the two kinds are never added to one another.
+pub struct Infrared(pub u16);
+
+pub struct Visible(pub u32);
+
+// One infrared pixel spans so many visible ones.
+const SPAN: u32 = 4;
+
+// The infrared pixels of the narrowest scan and of the widest, 19.2 degrees.
+const NARROWEST: u16 = 1;
+
+const WIDEST: u16 = 5236;
+
+// The words of line documentation in front of a record's pixels.
+const LINE_WORDS: u32 = 16;
+
+// The bits of a word that holds a pixel.
+const IMAGE_SIZE: u8 = 10;
+
+// The field in blocks 0 and 11; the shortest field in the others, and the unit in which they grow.
+const FIXED_BITS: u32 = 64320;
+
+const SHORTEST_BITS: usize = 21440;
+
+const UNIT_BITS: usize = 16;
+
+// What a block number allows: words of `size` bits in so many records, their count a multiple of `step` from `least` to `most`.
+pub struct Row {
+    pub size: u8,
+    pub records: u8,
+    pub least: u32,
+    pub most: u32,
+    pub step: u32,
+}
+
+// Four times a u16 always fits.
+pub fn to_visible(n: Infrared) -> Visible
+    ensures { λ r. ⌜ r .0 ≡ visibleOf (n .0) ⌝ }
+{
+    Visible(n.0 as u32 * SPAN)
+}
+
+fn infrared_words(n: Infrared) -> u32
+    ensures { λ r. ⌜ r ≡ recordWords (n .0) ⌝ }
+{
+    LINE_WORDS + n.0 as u32
+}
+
+fn visible_words(n: Infrared) -> u32
+    ensures { λ r. ⌜ r ≡ recordWords (visibleOf (n .0)) ⌝ }
+{
+    let seen = to_visible(n);
+    LINE_WORDS + seen.0
+}
+
+// The words of this size that fill the field of blocks 0 and 11.
+fn fixed_row(size: u8) -> Row
+    requires { ⌜ 0 < size ⌝ }
+    ensures { λ r. ⌜ r ≡ fixedRow size ⌝ }
+{
+    let words = FIXED_BITS / size as u32;
+    Row {
+        size: size,
+        records: 0,
+        least: words,
+        most: words,
+        step: 1,
+    }
+}
+
+fn infrared_row(records: u8) -> Row
+    ensures { λ r. ⌜ r ≡ infraredRow records ⌝ }
+{
+    let step = records as u32;
+    Row {
+        size: IMAGE_SIZE,
+        records: records,
+        least: step * infrared_words(Infrared(NARROWEST)),
+        most: step * infrared_words(Infrared(WIDEST)),
+        step: step,
+    }
+}
+
+// The 16 words of documentation are a multiple of the span too, and so is the count.
+fn visible_row() -> Row
+    ensures { λ r. ⌜ r ≡ visibleRow ⌝ }
+{
+    Row {
+        size: IMAGE_SIZE,
+        records: 1,
+        least: visible_words(Infrared(NARROWEST)),
+        most: visible_words(Infrared(WIDEST)),
+        step: SPAN,
+    }
+}
+
+fn no_row() -> Row
+    ensures { λ r. ⌜ r ≡ noRow ⌝ }
+{
+    Row {
+        size: 0,
+        records: 0,
+        least: 1,
+        most: 0,
+        step: 1,
+    }
+}
+
+// Block 11 has words of three sizes. Asked for another it answers with the last of them, and the sizes differ.
+fn last_row(size: u8) -> Row
+    ensures { λ r. ⌜ r ≡ lastRow size ⌝ }
+{
+    match size {
+        6 => fixed_row(6),
+        8 => fixed_row(8),
+        _ => fixed_row(10),
+    }
+}
+
+// The row of a block number. The version changes none so far.
+pub fn row_of(block: u8, version: u8, size: u8) -> Row
+    ensures { λ r. ⌜ r ≡ rowOf block version size ⌝ }
+{
+    match block {
+        0 => fixed_row(8),
+        1 => infrared_row(4),
+        2 => infrared_row(3),
+        3..=10 => visible_row(),
+        11 => last_row(size),
+        _ => no_row(),
+    }
+}
+
+// Whether a row permits a count of words. No row above has a step of 0, and one that has permits none.
+pub fn permits(row: Row, words: u32) -> bool
+    ensures { λ r. ⌜ r ≡ permits row words ⌝ }
+{
+    if row.step == 0 {
+        return false;
+    }
+    (row.least <= words) & ((words <= row.most) & (words % row.step == 0))
+}
+
+fn field_bits(block: u8, words: u32) -> usize
+    ensures { λ r. ⌜ r ≡ fieldBits block words ⌝ }
+{
+    if (block == 0) | (block == 11) {
+        return FIXED_BITS as usize;
+    }
+    let units = (words as usize * IMAGE_SIZE as usize + (UNIT_BITS - 1)) / UNIT_BITS;
+    let bits = units * UNIT_BITS;
+    if bits < SHORTEST_BITS {
+        return SHORTEST_BITS;
+    }
+    bits
+}
+
+// The bytes of the field that holds so many words.
+pub fn field_bytes(block: u8, words: u32) -> usize
+    ensures { λ r. ⌜ r ≡ fieldBytes block words ⌝ }
+{
+    field_bits(block, words) / 8
+}
