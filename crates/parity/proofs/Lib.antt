@@ -1,0 +1,3 @@
+pub mod LawsFold
+pub mod LawsSections
+pub mod LawsWords
