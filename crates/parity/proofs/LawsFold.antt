@@ -21,7 +21,7 @@ module _ {B : Type 0} (f : B → ℕ → B) (z : B) (words : List ℕ) where
     step h =
         record {
           within = omega arith;
-          onward = rw add-one (ap (foldl f acc) (sym (drop-cons words i 0 h)) ∙ s .onward)
+          onward = rw add-one (ap (foldl f acc) (sym (drop-cons words i 0 h)) ∙ s .onward);
         }
 
     pub finish : length words ≤ i → acc ≡ foldl f z words

@@ -1,57 +1,44 @@
+-- `parity::check_sections` meets its contract: a refusal is that of `ground_of`, and past it the block has 8,040 words.
+-- Assumes nothing.
 use mathlib.Core.Path.{_≡_, sym, ap, _∙_}
+use borrow.Author.Needs.{needs}
 use Rattle.parity.specs.declared.Layout.the-variants.{ImagerSpacelook, SounderSpacelook}
 use Rattle.parity.specs.Sections.{refusedBy}
 use Rattle.parity.proofs.LawsSections.{refuses, put-together}
 use Rattle.parity.proofs.LawsWords.{right-length}
-use borrow.Author.Needs.{needs}
 use Rattle.parity.proofs.check_sections.Statement.{statement}
 use Rattle.parity.proofs.check_sections.Tie as tie
-use Rattle.parity.proofs.check_sections.Reads as reads
-use Rattle.parity.proofs.check_sections.Lts as lts
-use Rattle.parity.proofs.ground_of.Reads as ground-of-reads
-use Rattle.parity.proofs.imager_verdicts.Reads as imager-verdicts-reads
-use Rattle.parity.proofs.refused.Reads as refused-reads
-use Rattle.parity.proofs.sounder_verdicts.Reads as sounder-verdicts-reads
 
--- src/lib.rt:131:9
 ground-of-requires : tie.Need-ground-of-requires
 ground-of-requires c κs = search needs
 
--- src/lib.rt:133:9
 refused-requires : tie.Need-refused-requires
 refused-requires c κs = search needs
 
--- src/lib.rt:133:9
 returns : tie.Need-returns
 returns c =
     let e = c .before .before .ground-of .ensures in
     c .refused .ensures ∙ ap refusedBy e ∙ sym (refuses _ _ (λ z. c .before .if1 .taken (e ∙ z)))
 
--- src/lib.rt:137:17
 enum-told : tie.Need-enum-told
 enum-told c = search needs
 
--- src/lib.rt:137:17
 imager-verdicts-requires : tie.Need-imager-verdicts-requires
 imager-verdicts-requires c κs =
     right-length _ (sym (c .before .before .before .ground-of .ensures) ∙ c .before .before .if1 .left)
 
--- src/lib.rt:145:17
 enum-told-2 : tie.Need-enum-told-2
 enum-told-2 c = search needs
 
--- src/lib.rt:145:17
 sounder-verdicts-requires : tie.Need-sounder-verdicts-requires
 sounder-verdicts-requires c κs =
     right-length _ (sym (c .before .before .before .ground-of .ensures) ∙ c .before .before .if1 .left)
 
--- src/lib.rt:128:1
 returns-2 : tie.Need-returns-2
 returns-2 c =
     put-together _ _ ImagerSpacelook (c .before .enum-told .given .1)
     _ (c .before .before .before .before .ground-of .ensures) (c .before .before .before .if1 .left) _ (c .imager-verdicts .ensures)
 
--- src/lib.rt:128:1
 returns-3 : tie.Need-returns-3
 returns-3 c =
     put-together _ _ SounderSpacelook (c .before .enum-told2 .given .1)

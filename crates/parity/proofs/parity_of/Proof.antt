@@ -9,8 +9,6 @@ use Rattle.parity.specs.Sections.{xorOf}
 use Rattle.parity.proofs.LawsFold.{Folding, start, step, finish}
 use Rattle.parity.proofs.parity_of.Statement.{statement}
 use Rattle.parity.proofs.parity_of.Tie as tie
-use Rattle.parity.proofs.parity_of.Reads as reads
-use Rattle.parity.proofs.parity_of.Lts as lts
 
 abbrev Inv-loop : tie.InvT-loop
 Inv-loop words parity₀ i₀ parity i = Folding bitXor 0 words parity i
