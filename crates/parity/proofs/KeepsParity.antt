@@ -7,13 +7,11 @@ use mathlib.Core.List.{List, [], _∷_}
 use mathlib.Core.Logic.{_⊎_, inl, inr}
 use native.Mathlib.Omega.{arith}
 use lib.Dec.{eqb, lit<, lit≤}
-use lib.ListN.{length, getD, take, drop, length-take, length-drop}
+use lib.ListN.{length, getD, drop, length-take, length-drop}
 use lib.Seq.{ext-getD, getD-take, getD-drop}
 use Rattle.ground.specs.Choice.{pick}
-use Rattle.parity.specs.declared.Layout.the-variants.{ImagerSpacelook}
 use Rattle.parity.specs.declared.Section.{Section}
-use Rattle.parity.specs.Sections.{xorOf, _to_kept-in_, firstWord, lastWord, parityWord, word, wordsFrom, holdsIn, accepted, refusedBy, sectionsOf}
-use Rattle.parity.specs.Words.{groundOf}
+use Rattle.parity.specs.Sections.{xorOf, _to_kept-in_, firstWord, lastWord, parityWord, word, wordsFrom, holdsIn, judgedAs, refusedBy, sectionsOf}
 use Rattle.parity.specs.Promises.{Row13, ReadsItsOwn, SameOutside, SparesUnread}
 
 pub row-13 : Row13
@@ -55,5 +53,5 @@ spares-unread u v same e =
     let third = kept (703 to 1181 kept-in 1182) (lit≤ tt) (lit< tt) (inl (lit< tt)) in
     let fourth = kept (1183 to 7902 kept-in 7906) (lit≤ tt) (lit< tt) (inr (lit< tt)) in
     λ i. pick (eqb (e i) 0)
-    (record { number = 0; count = 4; holds = first i ∷ second i ∷ third i ∷ fourth i ∷ [] })
+    (judgedAs 4 (first i ∷ second i ∷ third i ∷ fourth i ∷ []))
     (refusedBy (e i))

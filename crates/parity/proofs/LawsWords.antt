@@ -9,12 +9,12 @@ use lib.Dec.{eqb}
 use lib.ListN.{length}
 use borrow.Author.Tests.{eqb-true}
 use Rattle.ground.specs.Choice.{pick}
-use Rattle.parity.specs.Words.{anyLarge, groundOf}
+use Rattle.parity.specs.Words.{blockWords, anyLarge, groundOf}
 
-pub right-length : (words : List ℕ) → groundOf words ≡ 0 → length words ≡ 8040
+pub right-length : (words : List ℕ) → groundOf words ≡ 0 → length words ≡ blockWords
 unfolding groundOf
-right-length words h = by-test (eqb (length words) 8040) refl
+right-length words h = by-test (eqb (length words) blockWords) refl
   where
-    by-test : (t : Bool) → eqb (length words) 8040 ≡ t → length words ≡ 8040
-    by-test true e = eqb-true (length words) 8040 e
+    by-test : (t : Bool) → eqb (length words) blockWords ≡ t → length words ≡ blockWords
+    by-test true e = eqb-true (length words) blockWords e
     by-test false e = let z : _≡_ {A = ℕ} 8 0 = ap (λ (t : Bool). pick (not t) 8 (pick (anyLarge words) 14 0)) (sym e) ∙ h in absurd (omega arith)

@@ -49,7 +49,7 @@ wordsFrom first last words = take (last + 1 - first) (drop (first - 1) words)
 unfoldable pub holdsIn : Section → List ℕ → Bool
 holdsIn s words = eqb (xorOf (wordsFrom (firstWord s) (lastWord s) words)) (word words (parityWord s))
 
--- a section within n words
+-- a section that lies, with its parity word, within n words
 pub record LiesIn (s : Section) (n : ℕ) : Type 0 where
   pub starts : 1 ≤ firstWord s
   pub ends : firstWord s ≤ lastWord s
@@ -64,12 +64,15 @@ fourOf l = take 4 (l ++ (false ∷ false ∷ false ∷ false ∷ []))
 abbrev pub verdictsOn : Layout → List ℕ → List Bool
 verdictsOn layout words = fourOf (map (λ s. holdsIn s words) (sectionsIn layout))
 
-abbrev pub accepted : Layout → List ℕ → Sections
-accepted layout words = record { number = 0; count = length (sectionsIn layout); holds = verdictsOn layout words }
+abbrev pub judgedAs : ℕ → List Bool → Sections
+judgedAs n l = record { number = 0; count = n; holds = l }
 
 -- A refusal returns its number; every count and mark in it is zero.
 abbrev pub refusedBy : ℕ → Sections
 refusedBy n = record { number = n; count = 0; holds = fourOf [] }
 
 unfoldable pub sectionsOf : Layout → List ℕ → Sections
-sectionsOf layout words = pick (eqb (groundOf words) 0) (accepted layout words) (refusedBy (groundOf words))
+sectionsOf layout words =
+    pick (eqb (groundOf words) 0)
+    (judgedAs (length (sectionsIn layout)) (verdictsOn layout words))
+    (refusedBy (groundOf words))

@@ -3,8 +3,8 @@
 
 ghost use mathlib.Core.Path.{_≡_};
 ghost use Rattle.parity.specs.declared.Layout.the-variants.{ImagerSpacelook, SounderSpacelook};
-ghost use Rattle.parity.specs.Words.{groundOf, anyLarge};
-ghost use Rattle.parity.specs.Sections.{xorOf, holdsIn, LiesIn, verdictsOn, sectionsOf, refusedBy};
+ghost use Rattle.parity.specs.Words.{blockWords, anyLarge, groundOf};
+ghost use Rattle.parity.specs.Sections.{xorOf, holdsIn, LiesIn, verdictsOn, judgedAs, refusedBy, sectionsOf};
 ghost use lib.ListN.{length};
 
 // The published layouts whose sections are checked.
@@ -30,6 +30,10 @@ const BLOCK_WORDS: usize = 8040;
 
 const LARGEST_WORD: u16 = 255;
 
+const IMAGER_SECTIONS: u8 = 4;
+
+const SOUNDER_SECTIONS: u8 = 2;
+
 // The four sections of the Imager layout, then the two of the Sounder layout. Words 7903 to 7905 are in none. Each row is read at a
 // constant place and so becomes numbers in the code: no copy of the table is made.
 const SECTIONS: [Section; 6] = [
@@ -54,6 +58,7 @@ pub fn parity_of(words: &[u16]) -> u16
     parity
 }
 
+// No way out before the end: so the loop runs on many words at a time.
 fn any_large(words: &[u16]) -> bool
     ensures { λ r. ⌜ r ≡ anyLarge (now (words .entry)) ⌝ }
 {
@@ -80,6 +85,7 @@ pub fn ground_of(words: &[u16]) -> u8
     ground::ACCEPTED
 }
 
+// The verdict on any row of the table.
 fn section_holds(words: &[u16], s: Section) -> bool
     requires { ⌜ LiesIn s (length (now words)) ⌝ }
     ensures { λ r. ⌜ r ≡ holdsIn s (now (words .entry)) ⌝ }
@@ -91,7 +97,7 @@ fn section_holds(words: &[u16], s: Section) -> bool
 }
 
 fn imager_verdicts(words: &[u16]) -> [bool; 4]
-    requires { ⌜ length (now words) ≡ 8040 ⌝ }
+    requires { ⌜ length (now words) ≡ blockWords ⌝ }
     ensures { λ r. ⌜ r ≡ verdictsOn ImagerSpacelook (now (words .entry)) ⌝ }
 {
     [
@@ -103,7 +109,7 @@ fn imager_verdicts(words: &[u16]) -> [bool; 4]
 }
 
 fn sounder_verdicts(words: &[u16]) -> [bool; 4]
-    requires { ⌜ length (now words) ≡ 8040 ⌝ }
+    requires { ⌜ length (now words) ≡ blockWords ⌝ }
     ensures { λ r. ⌜ r ≡ verdictsOn SounderSpacelook (now (words .entry)) ⌝ }
 {
     [
@@ -124,6 +130,16 @@ fn refused(number: u8) -> Sections
     }
 }
 
+fn judged(count: u8, holds: [bool; 4]) -> Sections
+    ensures { λ r. ⌜ r ≡ judgedAs count holds ⌝ }
+{
+    Sections {
+        number: ground::ACCEPTED,
+        count,
+        holds,
+    }
+}
+
 // The verdicts of a layout's sections on a block that `ground_of` accepts.
 pub fn check_sections(layout: Layout, words: &[u16]) -> Sections
     ensures { λ r. ⌜ r ≡ sectionsOf layout (now (words .entry)) ⌝ }
@@ -133,21 +149,7 @@ pub fn check_sections(layout: Layout, words: &[u16]) -> Sections
         return refused(number);
     }
     match layout {
-        Layout::ImagerSpacelook => {
-            let holds = imager_verdicts(words);
-            Sections {
-                number,
-                count: 4,
-                holds,
-            }
-        }
-        Layout::SounderSpacelook => {
-            let holds = sounder_verdicts(words);
-            Sections {
-                number,
-                count: 2,
-                holds,
-            }
-        }
+        Layout::ImagerSpacelook => judged(IMAGER_SECTIONS, imager_verdicts(words)),
+        Layout::SounderSpacelook => judged(SOUNDER_SECTIONS, sounder_verdicts(words)),
     }
 }
