@@ -34,8 +34,8 @@ const IMAGER_SECTIONS: u8 = 4;
 
 const SOUNDER_SECTIONS: u8 = 2;
 
-// The four sections of the Imager layout, then the two of the Sounder layout. Words 7903 to 7905 are in none. Each row is read at a
-// constant place and so becomes numbers in the code: no copy of the table is made.
+// The four sections of the Imager layout, then the two of the Sounder layout. Words 7903 to 7905 are in none. A function copies the
+// table once and reads it at constant places only, so that the rows become numbers in the code.
 const SECTIONS: [Section; 6] = [
     Section(1, 221, 222),
     Section(223, 701, 702),
@@ -100,11 +100,12 @@ fn imager_verdicts(words: &[u16]) -> [bool; 4]
     requires { ⌜ length (now words) ≡ blockWords ⌝ }
     ensures { λ r. ⌜ r ≡ verdictsOn ImagerSpacelook (now (words .entry)) ⌝ }
 {
+    let rows = SECTIONS;
     [
-        section_holds(words, SECTIONS[0]),
-        section_holds(words, SECTIONS[1]),
-        section_holds(words, SECTIONS[2]),
-        section_holds(words, SECTIONS[3]),
+        section_holds(words, rows[0]),
+        section_holds(words, rows[1]),
+        section_holds(words, rows[2]),
+        section_holds(words, rows[3]),
     ]
 }
 
@@ -112,9 +113,10 @@ fn sounder_verdicts(words: &[u16]) -> [bool; 4]
     requires { ⌜ length (now words) ≡ blockWords ⌝ }
     ensures { λ r. ⌜ r ≡ verdictsOn SounderSpacelook (now (words .entry)) ⌝ }
 {
+    let rows = SECTIONS;
     [
-        section_holds(words, SECTIONS[4]),
-        section_holds(words, SECTIONS[5]),
+        section_holds(words, rows[4]),
+        section_holds(words, rows[5]),
         false,
         false,
     ]
