@@ -1,4 +1,4 @@
--- The writer's grounds: those of the header, then those of the words; and the two ends of its answer.
+-- The writer's ends: a refusal by the header or by the words, and the block written.
 -- Assumes nothing.
 use mathlib.Core.Path.{_≡_, refl, sym, ap, ap₂, _∙_, subst}
 use mathlib.Core.Bool.{Bool, true, false, not}
@@ -9,56 +9,20 @@ use borrow.Author.Tests.{eq-eqb, ne-eqb, lt-ltb, le-ltb, not-true}
 use lib.Dec.{eqb}
 use lib.ListN.{length, drop}
 use Rattle.ground.specs.Choice.{pick}
-use Rattle.ground.specs.Grounds.{Ground, firstOf}
-use Rattle.ground.proofs.LawsChoice.{yes, no, split}
-use Rattle.ground.proofs.LawsGrounds.{numbered, accepts, refuses}
+use Rattle.ground.specs.Grounds.{firstOf}
+use Rattle.ground.proofs.LawsChoice.{yes, no}
+use Rattle.ground.proofs.LawsGrounds.{accepts, refuses}
 use Rattle.bits.specs.Fields.{allFit}
 use Rattle.row.specs.Promises.{Held}
-use Rattle.row.proofs.LawsField.{words-held}
-use Rattle.header.specs.Says.{headerLength, sizeIn, wordsIn, bytesIn}
-use Rattle.header.specs.Plans.{planGrounds, planOf, grantedPlan}
+use Rattle.header.specs.Says.{sizeIn, wordsIn, bytesIn}
+use Rattle.header.specs.Plans.{planOf, grantedPlan}
 use Rattle.header.specs.declared.Plan.{Plan}
-use Rattle.header.proofs.KeepsHeader.{plan-number, plan-granted, grants-asked}
+use Rattle.header.proofs.LawsThen.{header-decides, others-decide, plan-is, plan-held}
 use Rattle.writer.specs.declared.Written.{Written}
 use Rattle.writer.specs.Blocks.{blockOf}
 use Rattle.writer.specs.Answers.{blockBytes, wordGrounds, groundsOf, refusalOf, refusedWritten, writtenOf, roomAfter}
 
--- grounds tested one list after another: the first list's, or where none of that holds the second's
-first-then : (gs hs : List Ground) → numbered gs ≡ true → firstOf (gs ++ hs) ≡ pick (eqb (firstOf gs) 0) (firstOf hs) (firstOf gs)
-first-then [] hs n = refl
-first-then (g ∷ gs) hs n =
-    let s = split (not (eqb (g .number) 0)) (numbered gs) n in
-    by (g .holds) (not-true (eqb (g .number) 0) (s .0)) (first-then gs hs (s .1))
-  where
-    by : (t : Bool) → eqb (g .number) 0 ≡ false → firstOf (gs ++ hs) ≡ pick (eqb (firstOf gs) 0) (firstOf hs) (firstOf gs)
-        → pick t (g .number) (firstOf (gs ++ hs)) ≡ pick (eqb (pick t (g .number) (firstOf gs)) 0) (firstOf hs) (pick t (g .number) (firstOf gs))
-    by true k e = sym (ap (λ (z : Bool). pick z (firstOf hs) (g .number)) k)
-    by false k e = e
-
--- what a plan that is granted says
-pub plan-held : (h : List ℕ) {p : Plan} → p ≡ planOf h → p .number ≡ 0 → (p ≡ grantedPlan h) × (length h ≡ headerLength) × Held (sizeIn h) (wordsIn h) (bytesIn h)
-plan-held h {p} e z =
-    let number : planOf h .number ≡ 0 = sym (ap (λ (q : Plan). q .number) e) ∙ z in
-    let asks = grants-asked .only h number in
-    (e ∙ plan-granted h (sym (plan-number h) ∙ number), asks .0, words-held _ _ _ _ (asks .1 .suits))
-
 module _ (h ws : List ℕ) where
-  refusal-then : (room : ℕ) → refusalOf h ws room ≡ pick (eqb (planOf h .number) 0) (firstOf (wordGrounds h ws room)) (planOf h .number)
-  unfolding refusalOf
-  refusal-then room =
-      first-then (planGrounds h) (wordGrounds h ws room) refl
-      ∙ ap (λ (n : ℕ). pick (eqb n 0) (firstOf (wordGrounds h ws room)) n) (sym (plan-number h))
-
-  pub by-header : (room : ℕ) {p : Plan} → p ≡ planOf h → (p .number ≡ 0 → ⊥) → refusalOf h ws room ≡ p .number
-  by-header room {p} e f =
-      let same = ap (λ (q : Plan). q .number) e in
-      refusal-then room ∙ ap (λ (n : ℕ). pick (eqb n 0) (firstOf (wordGrounds h ws room)) n) (sym same)
-      ∙ sym (no _ refl (ne-eqb (p .number) 0 f) refl)
-
-  pub by-words : (room : ℕ) {p : Plan} → p ≡ planOf h → p .number ≡ 0 → refusalOf h ws room ≡ firstOf (wordGrounds h ws room)
-  by-words room {p} e z =
-      refusal-then room ∙ ap (λ (n : ℕ). pick (eqb n 0) (firstOf (wordGrounds h ws room)) n) (sym (ap (λ (q : Plan). q .number) e) ∙ z)
-
   module _ (room : List ℕ) where
     pub refused : {n : ℕ} → refusalOf h ws (length room) ≡ n → (n ≡ 0 → ⊥) → (refusedWritten n ≡ writtenOf h ws (length room)) × (room ≡ roomAfter h ws room)
     unfolding writtenOf roomAfter
@@ -81,11 +45,12 @@ module _ (h ws room : List ℕ) {p : Plan} (e : p ≡ planOf h) where
   ends c k f = let x = refused h ws room k f in (c ∙ x .0, x .1)
 
   pub header-refused : {r : Written} → (p .number ≡ 0 → ⊥) → r ≡ refusedWritten (p .number) → Ends r room
-  header-refused f c = ends c (by-header h ws (length room) e f) f
+  unfolding refusalOf
+  header-refused f c = ends c (header-decides h e (wordGrounds h ws (length room)) f) f
 
   module _ (z : p .number ≡ 0) where
     granted : p ≡ grantedPlan h
-    granted = plan-held h e z .0
+    granted = plan-is h e z
 
     words-is : p .words ≡ wordsIn h
     words-is = ap (λ (q : Plan). q .words) granted
@@ -97,9 +62,10 @@ module _ (h ws room : List ℕ) {p : Plan} (e : p ≡ planOf h) where
     size-is = ap (λ (q : Plan). q .size) granted
 
     pub length-refused : {r : Written} → (length ws ≡ p .words → ⊥) → r ≡ refusedWritten 8 → Ends r room
+    unfolding refusalOf
     length-refused f c =
         ends c
-        (by-words h ws (length room) e z ∙ sym (yes _ refl (ap not (ne-eqb (length ws) (wordsIn h) (λ k. f (k ∙ sym words-is)))) refl))
+        (others-decide h e (wordGrounds h ws (length room)) z ∙ sym (yes _ refl (ap not (ne-eqb (length ws) (wordsIn h) (λ k. f (k ∙ sym words-is)))) refl))
         (λ k. omega arith)
 
     module _ (l : length ws ≡ p .words) where
@@ -107,19 +73,21 @@ module _ (h ws room : List ℕ) {p : Plan} (e : p ≡ planOf h) where
       counted = ap not (eq-eqb (length ws) (wordsIn h) (l ∙ words-is))
 
       pub room-refused : {r : Written} → length room < p .bytes + 92 → r ≡ refusedWritten 9 → Ends r room
+      unfolding refusalOf
       room-refused small c =
           ends c
-          (by-words h ws (length room) e z
+          (others-decide h e (wordGrounds h ws (length room)) z
           ∙ sym (no _ refl counted (yes _ refl (lt-ltb (length room) (blockBytes h) (subst (λ (n : ℕ). length room < n + 92) bytes-is small)) refl)))
           (λ k. omega arith)
 
       pub held : Held (p .size) (length ws) (p .bytes)
-      held = subst (λ (q : Plan). Held (q .size) (length ws) (q .bytes)) (sym granted) (subst (λ (n : ℕ). Held (sizeIn h) n (bytesIn h)) (sym (l ∙ words-is)) (plan-held h e z .2))
+      held = subst (λ (q : Plan). Held (q .size) (length ws) (q .bytes)) (sym granted) (subst (λ (n : ℕ). Held (sizeIn h) n (bytesIn h)) (sym (l ∙ words-is)) (plan-held h e z))
 
       module _ (roomy : p .bytes + 92 ≤ length room) where
         last-ground : refusalOf h ws (length room) ≡ pick (allFit (p .size) ws) 0 14
+        unfolding refusalOf
         last-ground =
-            by-words h ws (length room) e z
+            others-decide h e (wordGrounds h ws (length room)) z
             ∙ sym
             (no _ refl counted (no _ refl (le-ltb (length room) (blockBytes h) (subst (λ (n : ℕ). n + 92 ≤ length room) bytes-is roomy)) (turned (allFit (p .size) ws) (ap (λ (s : ℕ). allFit s ws) size-is))))
           where

@@ -1,7 +1,8 @@
 -- `writer::write` meets its contract: a return for each ground in its order, and one for the block written.
 -- Assumes nothing.
 use native.Mathlib.Omega.{arith}
-use Rattle.writer.proofs.LawsWrite.{plan-held, header-refused, length-refused, room-refused, held, word-refused, block-written}
+use Rattle.header.proofs.LawsThen.{plan-long}
+use Rattle.writer.proofs.LawsWrite.{header-refused, length-refused, room-refused, held, word-refused, block-written}
 use borrow.Author.Needs.{needs}
 use Rattle.writer.proofs.write.Statement.{statement}
 use Rattle.writer.proofs.write.Tie as tie
@@ -43,7 +44,7 @@ put-block-requires c κs =
     let a = c .before .before .before .before .before .before .before .before .before .before .before .args in
     let e = c .before .before .before .before .before .before .before .plan-of .ensures in
     let z = c .before .before .before .before .before .if1 .left in
-    (plan-held (a .header .now) e z .1, (held (a .header .now) (a .words .now) (a .room .now) e z (c .before .before .before .if2 .left), c .before .if3 .left))
+    (plan-long (a .header .now) e z, (held (a .header .now) (a .words .now) (a .room .now) e z (c .before .before .before .if2 .left), c .before .if3 .left))
 
 refused-requires-4 : tie.Need-refused-requires-4
 refused-requires-4 c κs = search needs
