@@ -22,15 +22,15 @@ fn refused(number: u8) -> Part
     }
 }
 
-// Where record `record`, from 1, lies in so many decoded words of the block with this header.
-pub fn locate(header: &[u8], words: usize, record: u8) -> Part
-    ensures { λ r. ⌜ r ≡ partOf (now (header .entry)) «record» words ⌝ }
+// Where record k, from 1, lies in so many decoded words of the block with this header.
+pub fn locate(header: &[u8], words: usize, k: u8) -> Part
+    ensures { λ r. ⌜ r ≡ partOf (now (header .entry)) k words ⌝ }
 {
     let plan = header::plan_of(header);
     if plan.number != ground::ACCEPTED {
         return refused(plan.number);
     }
-    if (record == 0) | (plan.records < record) {
+    if (k == 0) | (plan.records < k) {
         return refused(ground::NO_RECORD);
     }
     if words < plan.words {
@@ -39,16 +39,16 @@ pub fn locate(header: &[u8], words: usize, record: u8) -> Part
     let length = plan.words / plan.records as usize;
     Part {
         number: ground::ACCEPTED,
-        start: (record - 1) as usize * length,
+        start: (k - 1) as usize * length,
         length: length,
     }
 }
 
 // The record's part of the words; empty where `locate` refuses.
-pub fn record_in<'a>(header: &[u8], words: &'a [u16], record: u8) -> &'a [u16]
-    ensures { λ r. ⌜ now r ≡ recordOf (now (header .entry)) «record» (now (words .entry)) ⌝ }
+pub fn record_in<'a>(header: &[u8], words: &'a [u16], k: u8) -> &'a [u16]
+    ensures { λ r. ⌜ now r ≡ recordOf (now (header .entry)) k (now (words .entry)) ⌝ }
 {
-    let part = locate(header, words.len(), record);
+    let part = locate(header, words.len(), k);
     let start = part.start;
     let end = start + part.length;
     &words[start..end]

@@ -26,9 +26,10 @@ module _ (h ws : List ℕ) where
   module _ (room : List ℕ) where
     pub refused : {n : ℕ} → refusalOf h ws (length room) ≡ n → (n ≡ 0 → ⊥) → (refusedWritten n ≡ writtenOf h ws (length room)) × (room ≡ roomAfter h ws room)
     unfolding writtenOf roomAfter
-    refused {n} e f =
-        (refuses (record { number = 0; bytes = blockBytes h }) refusedWritten e f,
-        refuses (blockOf h (sizeIn h) (bytesIn h) ws ++ drop (blockBytes h) room) (λ _. room) e f)
+    refused {n} e f = (
+      refuses (record { number = 0; bytes = blockBytes h }) refusedWritten e f,
+      refuses (blockOf h (sizeIn h) (bytesIn h) ws ++ drop (blockBytes h) room) (λ _. room) e f,
+    )
 
     pub accepted : refusalOf h ws (length room) ≡ 0 → {after : List ℕ} → after ≡ blockOf h (sizeIn h) (bytesIn h) ws ++ drop (blockBytes h) room
         → (record { number = 0; bytes = blockBytes h } ≡ writtenOf h ws (length room)) × (after ≡ roomAfter h ws room)

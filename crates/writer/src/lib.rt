@@ -2,6 +2,7 @@
 ghost use mathlib.Core.Path.{_≡_};
 ghost use lib.ListN.{length};
 ghost use Rattle.writer.specs.Answers.{refusedWritten, writtenOf, roomAfter};
+
 mod parts;
 
 // 0 and the bytes written, or a refusal's number and 0.
