@@ -1,0 +1,4 @@
+pub mod Grounds
+pub mod Answers
+pub mod Meets
+pub mod Promises
