@@ -23,7 +23,7 @@ use Rattle.header.specs.Agreed.{Agreed}
 use Rattle.header.specs.Asks.{Asks}
 use Rattle.header.proofs.LawsSame.{same-refl, same-equal}
 use Rattle.header.proofs.LawsAgreed.{each}
-use Rattle.block.specs.Grounds.{blockLength}
+use Rattle.block.specs.Layout.{blockLength}
 use Rattle.block.specs.Answers.{refusedAnswer, answerOf, roomAfter}
 use Rattle.block.specs.Meets.{Meets}
 use Rattle.block.specs.Promises.{Accepted, blockOf, TwoAltered, Alike, FindsAltered}

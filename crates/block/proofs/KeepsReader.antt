@@ -21,9 +21,10 @@ use Rattle.header.specs.Says.{wordsIn}
 use Rattle.header.specs.Copies.{copiesLength, copyAt, tooShort, noCopyPasses, headerIn}
 use Rattle.header.proofs.LawsAgreed.{copy-bytes, none-passes, passes-none}
 use Rattle.block.specs.declared.Answer.{Answer}
-use Rattle.block.specs.Grounds.{fieldOf, groundsOf, refusalOf}
+use Rattle.block.specs.Layout.{informationField}
+use Rattle.block.specs.Grounds.{groundsOf, refusalOf}
 use Rattle.block.specs.Answers.{refusedAnswer, acceptedAnswer, answerOf, wordsBy, roomAfter}
-use Rattle.block.specs.Meets.{Meets, informationField}
+use Rattle.block.specs.Meets.{Meets}
 use Rattle.block.specs.Promises.{Accepted, RefusesInOrder, RefusesExactly, RefusalLeaves, TwoExactly, AcceptsExactly, AnswersTruly, GivesWords}
 use Rattle.block.proofs.LawsMeets.{none-meets, meets-none, header-is, words-are, size-is, bytes-are, refused-9}
 
@@ -111,7 +112,7 @@ words-cut block room bytes m r =
     let ws = words-are block bytes (m .agreed) (m .asks) (m .long) in
     let by = bytes-are block bytes (m .agreed) (m .asks) (m .long) in
     sym (accepts (wordsBy (headerIn block) block ++ drop (wordsIn (headerIn block)) room) (λ (_ : ℕ). room) (refusal-none block bytes (length room) m r))
-    ∙ (λ i. wordsOf (sz i) (ws i) (fieldOf (by i) block) ++ drop (ws i) room)
+    ∙ (λ i. wordsOf (sz i) (ws i) (informationField (by i) block) ++ drop (ws i) room)
 
 pub gives-words : GivesWords
 gives-words =

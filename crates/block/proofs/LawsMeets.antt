@@ -27,7 +27,8 @@ use Rattle.header.specs.Agreed.{Agreed}
 use Rattle.header.specs.Asks.{Asks}
 use Rattle.header.proofs.LawsAgreed.{none-agreed, agreed-none}
 use Rattle.header.proofs.LawsAsks.{none-asks, asks-none, asked-block, asked-words}
-use Rattle.block.specs.Grounds.{blockLength, fieldOf, wrongLength, offBoundary, smallRoom, checkDisagrees, fillNotZero, groundsOf}
+use Rattle.block.specs.Layout.{blockLength, informationField}
+use Rattle.block.specs.Grounds.{wrongLength, offBoundary, smallRoom, checkDisagrees, fillNotZero, groundsOf}
 use Rattle.block.specs.Meets.{Meets}
 
 -- ---- the fill, bit by bit
@@ -75,7 +76,7 @@ module _ (block : List ℕ) (bytes : Below 256 block) where
           asks = none-asks h (m .0, (m .1 .0, (m .1 .1 .0, (m .1 .1 .1 .0, tt))));
           long = eqb-true (length block) (blockLength (bytesIn h)) (not-false _ (f .0));
           checked = passes-true (drop copiesLength block) (below-drop 256 copiesLength block bytes) (not-false _ (f .1 .1 .1 .0));
-          filled = fill-each (sizeIn h) (wordsIn h) (fieldOf (bytesIn h) block) (not-false _ (f .1 .1 .1 .1 .0));
+          filled = fill-each (sizeIn h) (wordsIn h) (informationField (bytesIn h) block) (not-false _ (f .1 .1 .1 .1 .0));
         },
         ltb-false room (wordsIn h) (f .1 .1 .0),
       )
@@ -115,13 +116,13 @@ module _ (block : List ℕ) (bytes : Below 256 block) where
     pub refused-9 : (room : ℕ) → room < C → firstOf (groundsOf block h room) ≡ 9
     refused-9 room r =
         first-is early (9 when smallRoom (wordsIn h) room)
-        ((10 when checkDisagrees block) ∷ (11 when fillNotZero (sizeIn h) (wordsIn h) (fieldOf (bytesIn h) block)) ∷ [])
+        ((10 when checkDisagrees block) ∷ (11 when fillNotZero (sizeIn h) (wordsIn h) (informationField (bytesIn h) block)) ∷ [])
         early-none (lt-ltb room (wordsIn h) (omega (arith, words-are)))
 
     pub refused-10 : (room : ℕ) → C ≤ room → (Passes generator (drop copiesLength block) → ⊥) → firstOf (groundsOf block h room) ≡ 10
     refused-10 room r f =
         first-is (early ++ ((9 when smallRoom (wordsIn h) room) ∷ [])) (10 when checkDisagrees block)
-        ((11 when fillNotZero (sizeIn h) (wordsIn h) (fieldOf (bytesIn h) block)) ∷ [])
+        ((11 when fillNotZero (sizeIn h) (wordsIn h) (informationField (bytesIn h) block)) ∷ [])
         (none-append early ((9 when smallRoom (wordsIn h) room) ∷ []) early-none (le-ltb room (wordsIn h) (omega (arith, words-are)), tt))
         (go (passes (drop copiesLength block)) refl)
       where
@@ -131,7 +132,7 @@ module _ (block : List ℕ) (bytes : Below 256 block) where
 
   abbrev late : ℕ → List Ground
   late room =
-      (9 when smallRoom (wordsIn h) room) ∷ (10 when checkDisagrees block) ∷ (11 when fillNotZero (sizeIn h) (wordsIn h) (fieldOf (bytesIn h) block)) ∷ []
+      (9 when smallRoom (wordsIn h) room) ∷ (10 when checkDisagrees block) ∷ (11 when fillNotZero (sizeIn h) (wordsIn h) (informationField (bytesIn h) block)) ∷ []
 
   pub meets-none : (room : ℕ) (m : Meets block) → m .words ≤ room → NoneHolds (groundsOf block h room)
   meets-none room m r =
@@ -141,11 +142,10 @@ module _ (block : List ℕ) (bytes : Below 256 block) where
       let sz = size-is g a l in
       let ws = words-are g a l in
       let by = bytes-are g a l in
-      none-append (early g a l) (late room) (early-none g a l)
-      (
+      none-append (early g a l) (late room) (early-none g a l) (
         le-ltb room (wordsIn h) (omega arith),
         (
           ap not (true-passes (drop copiesLength block) (m .checked)),
-          (ap not ((λ i. allZero (fillOf (sz i) (ws i) (fieldOf (by i) block))) ∙ each-fill (m .size) (m .words) (fieldOf (fieldBytes (m .number) (m .words)) block) (m .filled)), tt),
+          (ap not ((λ i. allZero (fillOf (sz i) (ws i) (informationField (by i) block))) ∙ each-fill (m .size) (m .words) (informationField (fieldBytes (m .number) (m .words)) block) (m .filled)), tt),
         ),
       )

@@ -25,14 +25,15 @@ use Rattle.header.specs.Plans.{headerGrounds, grantedPlan, planOf}
 use Rattle.header.proofs.LawsAgreed.{copy-long}
 use Rattle.header.proofs.LawsPlans.{long-first}
 use Rattle.header.proofs.KeepsHeader.{common-number, common-found, plan-number, plan-granted, plan-held}
-use Rattle.block.specs.Grounds.{blockLength, fieldOf, wrongLength, fieldGrounds, groundsOf, refusalOf}
-use Rattle.block.specs.Answers.{acceptedAnswer, wordsBy}
+use Rattle.block.specs.Layout.{blockLength, informationField}
+use Rattle.block.specs.Grounds.{wrongLength, fieldGrounds, firstIn, groundsOf, refusalOf}
+use Rattle.block.specs.Answers.{answerWith, acceptedAnswer, wordsBy}
 
 -- what the test of the length shows
 pub right-length : {t : Bool} (bytes : ℕ) (block : List ℕ) → t ≡ wrongLength bytes block → t ≡ false → length block ≡ blockLength bytes
 right-length bytes block e f = eqb-true (length block) (blockLength bytes) (not-false _ (sym e ∙ f))
 
-pub field-long : (bytes : ℕ) (block : List ℕ) → length block ≡ blockLength bytes → length (fieldOf bytes block) ≡ bytes
+pub field-long : (bytes : ℕ) (block : List ℕ) → length block ≡ blockLength bytes → length (informationField bytes block) ≡ bytes
 field-long bytes block l = length-take-le bytes (drop copiesLength block) (omega (arith, length-drop copiesLength block))
 
 -- words that the field holds, and that the room is large enough for, are taken
@@ -55,11 +56,6 @@ header-long block l =
     either (λ (c : List ℕ). length c ≡ copyLength) (passes (copyAt 0 block)) (λ _. long 0 (lit< tt))
     (λ _. either (λ (c : List ℕ). length c ≡ copyLength) (passes (copyAt 1 block)) (λ _. long 1 (lit< tt)) (λ _. long 2 (lit< tt))) in
     length-take-le headerLength (commonIn block) (omega arith)
-
--- what the reader makes its number of
-abbrev pub firstIn : ℕ → Plan → List ℕ → ℕ → ℕ
-firstIn copies plan block room =
-    pick (eqb copies 0) (pick (eqb (plan .number) 0) (firstOf (fieldGrounds (plan .size) (plan .words) (plan .bytes) block room)) (plan .number)) copies
 
 module _ (block : List ℕ) where
   abbrev h : List ℕ
@@ -147,11 +143,8 @@ module _ {block : List ℕ} {room : ℕ} {common : Common} {plan : Plan} {n : �
         subst (λ (p : Plan). Held (p .size) (p .words) (p .bytes) × ((length block ≡ blockLength (p .bytes)) × (p .words ≤ room))) (sym granted)
         (all .held, (all .long, all .roomy))
 
-    pub called-answer : record { number = 0; header = common .header; first = common .first; second = common .second; third = common .third; words = plan .words }
-        ≡ acceptedAnswer block
-    called-answer =
-        let e = k .agreed ∙ all .common in
-        λ i. record { number = 0; header = e i .header; first = e i .first; second = e i .second; third = e i .third; words = granted i .words }
+    pub called-answer : answerWith common (plan .words) ≡ acceptedAnswer block
+    called-answer = let e = k .agreed ∙ all .common in λ i. answerWith (e i) (granted i .words)
 
-    pub called-words : (r : List ℕ) → wordsOf (plan .size) (plan .words) (fieldOf (plan .bytes) block) ++ drop (plan .words) r ≡ wordsBy (headerIn block) block ++ drop (wordsIn (headerIn block)) r
-    called-words r i = wordsOf (granted i .size) (granted i .words) (fieldOf (granted i .bytes) block) ++ drop (granted i .words) r
+    pub called-words : (r : List ℕ) → wordsOf (plan .size) (plan .words) (informationField (plan .bytes) block) ++ drop (plan .words) r ≡ wordsBy (headerIn block) block ++ drop (wordsIn (headerIn block)) r
+    called-words r i = wordsOf (granted i .size) (granted i .words) (informationField (granted i .bytes) block) ++ drop (granted i .words) r

@@ -4,23 +4,16 @@ use Prim.Native.Nat.{ℕ, _+_, _%_}
 use mathlib.Core.Bool.{Bool, not}
 use mathlib.Core.List.{List, [], _∷_}
 use lib.Dec.{eqb, ltb}
-use lib.ListN.{length, take, drop}
+use lib.ListN.{length, drop}
+use Rattle.ground.specs.Choice.{pick}
 use Rattle.ground.specs.Grounds.{Ground, _when_, firstOf}
 use Rattle.bits.specs.Fields.{fillOf, allZero}
 use Rattle.check_word.specs.Check.{passes}
+use Rattle.header.specs.declared.Plan.{Plan}
 use Rattle.header.specs.Says.{sizeIn, wordsIn, bytesIn}
 use Rattle.header.specs.Copies.{copiesLength, tooShort, noCopyPasses, copiesDiffer, headerIn}
 use Rattle.header.specs.Plans.{unknownBlock, unknownVersion, wrongSize, wrongCount}
-
--- a block as lent is 90 bytes of header, the information field, and 2 bytes of check word
-abbrev pub checkLength : ℕ
-checkLength = 2
-
-abbrev pub blockLength : ℕ → ℕ
-blockLength bytes = copiesLength + bytes + checkLength
-
-abbrev pub fieldOf : ℕ → List ℕ → List ℕ
-fieldOf bytes block = take bytes (drop copiesLength block)
+use Rattle.block.specs.Layout.{blockLength, informationField}
 
 -- 8: block bytes not exactly the required number
 abbrev pub wrongLength : ℕ → List ℕ → Bool
@@ -49,8 +42,13 @@ fieldGrounds size words bytes block room =
     ∷ (17 when offBoundary bytes)
     ∷ (9 when smallRoom words room)
     ∷ (10 when checkDisagrees block)
-    ∷ (11 when fillNotZero size words (fieldOf bytes block))
+    ∷ (11 when fillNotZero size words (informationField bytes block))
     ∷ []
+
+-- what the reader makes its number of: the copies' come before the plan's, and the plan's before the field's
+abbrev pub firstIn : ℕ → Plan → List ℕ → ℕ → ℕ
+firstIn copies plan block room =
+    pick (eqb copies 0) (pick (eqb (plan .number) 0) (firstOf (fieldGrounds (plan .size) (plan .words) (plan .bytes) block room)) (plan .number)) copies
 
 -- of a block with the common header h, lent room for so many words
 abbrev pub groundsOf : (block h : List ℕ) → ℕ → List Ground
@@ -66,7 +64,7 @@ groundsOf block h room =
     ∷ (17 when offBoundary (bytesIn h))
     ∷ (9 when smallRoom (wordsIn h) room)
     ∷ (10 when checkDisagrees block)
-    ∷ (11 when fillNotZero (sizeIn h) (wordsIn h) (fieldOf (bytesIn h) block))
+    ∷ (11 when fillNotZero (sizeIn h) (wordsIn h) (informationField (bytesIn h) block))
     ∷ []
 
 -- the number given is that of the first that holds, 0 where none does

@@ -1,3 +1,4 @@
+pub mod Layout
 pub mod Grounds
 pub mod Answers
 pub mod Meets

@@ -12,11 +12,13 @@ use Rattle.bits.specs.Runs.{Altered}
 use Rattle.check_word.specs.Check.{generator}
 use Rattle.check_word.specs.Finds.{Passes}
 use Rattle.row.specs.Field.{fieldBytes}
-use Rattle.header.specs.Copies.{copyAt, headerIn}
+use Rattle.header.specs.Says.{headerLength}
+use Rattle.header.specs.Copies.{copyLength, copyAt, headerIn}
 use Rattle.header.specs.Agreed.{NoneAgreed}
+use Rattle.block.specs.Layout.{informationField}
 use Rattle.block.specs.Grounds.{groundsOf}
 use Rattle.block.specs.Answers.{refusedAnswer, answerOf, roomAfter}
-use Rattle.block.specs.Meets.{Meets, informationField}
+use Rattle.block.specs.Meets.{Meets}
 
 abbrev pub Accepted : List ℕ → ℕ → Type 0
 Accepted block room = answerOf block room .number ≡ 0
@@ -52,7 +54,7 @@ pub record AcceptsExactly : Type 0 where
 
 -- The answer is the common header and the count of words, and which copies passed.
 pub record AnswersTruly : Type 0 where
-  pub header : (block : List ℕ) (room : ℕ) → Below 256 block → (m : Meets block) → m .words ≤ room → answerOf block room .header ≡ take 28 (m .copy)
+  pub header : (block : List ℕ) (room : ℕ) → Below 256 block → (m : Meets block) → m .words ≤ room → answerOf block room .header ≡ take headerLength (m .copy)
   pub count : (block : List ℕ) (room : ℕ) → Below 256 block → (m : Meets block) → m .words ≤ room → answerOf block room .words ≡ m .words
   pub first : (block : List ℕ) (room : ℕ) → Below 256 block → Accepted block room → (answerOf block room .first ≡ true) ↔ Passes generator (copyAt 0 block)
   pub second : (block : List ℕ) (room : ℕ) → Below 256 block → Accepted block room → (answerOf block room .second ≡ true) ↔ Passes generator (copyAt 1 block)
@@ -74,7 +76,7 @@ blockOf a b c rest = a ++ (b ++ (c ++ rest))
 
 -- x, y and z are the copy a three times, with at most two of them altered, each inside one run of 16 bits in the order sent
 pub record TwoAltered (a x y z : List ℕ) : Type 0 where
-  pub long : length a ≡ 30
+  pub long : length a ≡ copyLength
   pub first : Altered 16 a x
   pub second : Altered 16 a y
   pub third : Altered 16 a z

@@ -7,12 +7,12 @@ ghost use Rattle.ground.specs.Grounds.{firstOf};
 ghost use Rattle.bits.specs.Fields.{wordsOf};
 ghost use Rattle.row.specs.Promises.{longestField, Held};
 ghost use Rattle.header.specs.Copies.{copiesLength};
-ghost use Rattle.block.specs.Grounds.{blockLength, fieldOf, wrongLength, offBoundary, smallRoom, checkDisagrees, fillNotZero, fieldGrounds};
+ghost use Rattle.block.specs.Layout.{blockLength, informationField};
+ghost use Rattle.block.specs.Grounds.{wrongLength, offBoundary, smallRoom, checkDisagrees, fillNotZero, fieldGrounds};
+use header::COPIES_BYTES;
 use header::Plan;
 
-// The header copies in front of the field, and the check word behind it.
-const COPIES_BYTES: usize = 90;
-
+// The check word behind the field.
 const CHECK_BYTES: usize = 2;
 
 fn wrong_length(block: &[u8], bytes: usize) -> bool
@@ -44,7 +44,7 @@ fn check_disagrees(block: &[u8]) -> bool
 
 fn fill_not_zero(plan: Plan, block: &[u8]) -> bool
     requires { ⌜ length (now block) ≡ blockLength (plan .bytes) ⌝ }
-    ensures { λ r. ⌜ r ≡ fillNotZero (plan .size) (plan .words) (fieldOf (plan .bytes) (now (block .entry))) ⌝ }
+    ensures { λ r. ⌜ r ≡ fillNotZero (plan .size) (plan .words) (informationField (plan .bytes) (now (block .entry))) ⌝ }
 {
     let end = COPIES_BYTES + plan.bytes;
     !bits::fill_is_zero(&block[COPIES_BYTES..end], plan.size, plan.words)
@@ -78,7 +78,7 @@ pub fn take(plan: Plan, block: &[u8], room: &mut [u16])
     requires { ⌜ Held (plan .size) (plan .words) (plan .bytes) ⌝ }
     requires { ⌜ length (now block) ≡ blockLength (plan .bytes) ⌝ }
     requires { ⌜ plan .words ≤ length (now room) ⌝ }
-    ensures { λ _. ⌜ now (room .exit) ≡ wordsOf (plan .size) (plan .words) (fieldOf (plan .bytes) (now (block .entry))) ++ drop (plan .words) (now (room .entry)) ⌝ }
+    ensures { λ _. ⌜ now (room .exit) ≡ wordsOf (plan .size) (plan .words) (informationField (plan .bytes) (now (block .entry))) ++ drop (plan .words) (now (room .entry)) ⌝ }
 {
     let end = COPIES_BYTES + plan.bytes;
     bits::take_words(&block[COPIES_BYTES..end], plan.size, plan.words, room);

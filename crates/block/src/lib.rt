@@ -1,13 +1,10 @@
 // Reading a block: its header copies, its information field and its check word. No block is trusted, and none is copied.
 ghost use mathlib.Core.Path.{_≡_};
 ghost use Prim.Native.Nat.{_≤_};
-ghost use lib.Dec.{eqb};
 ghost use lib.ListN.{length};
-ghost use Rattle.ground.specs.Choice.{pick};
-ghost use Rattle.ground.specs.Grounds.{firstOf};
 ghost use Rattle.row.specs.Promises.{longestField};
-ghost use Rattle.block.specs.Grounds.{fieldGrounds};
-ghost use Rattle.block.specs.Answers.{refusedAnswer, answerOf, roomAfter};
+ghost use Rattle.block.specs.Grounds.{firstIn};
+ghost use Rattle.block.specs.Answers.{refusedAnswer, answerWith, answerOf, roomAfter};
 use header::Common;
 use header::Plan;
 
@@ -38,7 +35,7 @@ fn refused(number: u8) -> Answer
 }
 
 fn accepted(common: Common, words: usize) -> Answer
-    ensures { λ r. ⌜ r ≡ record { number = 0; header = common .header; first = common .first; second = common .second; third = common .third; words = words } ⌝ }
+    ensures { λ r. ⌜ r ≡ answerWith common words ⌝ }
 {
     let header = common.header;
     Answer {
@@ -54,7 +51,7 @@ fn accepted(common: Common, words: usize) -> Answer
 // The first ground that holds: of the copies, of the header, of the field.
 fn refusal(copies: u8, plan: Plan, block: &[u8], room: usize) -> u8
     requires { ⌜ plan .bytes ≤ longestField ⌝ }
-    ensures { λ r. ⌜ r ≡ pick (eqb copies 0) (pick (eqb (plan .number) 0) (firstOf (fieldGrounds (plan .size) (plan .words) (plan .bytes) (now (block .entry)) room)) (plan .number)) copies ⌝ }
+    ensures { λ r. ⌜ r ≡ firstIn copies plan (now (block .entry)) room ⌝ }
 {
     if copies != ground::ACCEPTED {
         return copies;

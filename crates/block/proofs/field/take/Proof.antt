@@ -6,7 +6,7 @@ use native.Mathlib.Omega.{arith}
 use lib.ListN.{take, drop}
 use Rattle.bits.specs.Fields.{roomTaken}
 use Rattle.header.specs.Copies.{copiesLength}
-use Rattle.block.specs.Grounds.{fieldOf}
+use Rattle.block.specs.Layout.{informationField}
 use Rattle.block.proofs.LawsReader.{field-long, words-taken}
 use borrow.Author.Needs.{needs}
 use Rattle.block.proofs.field.take.Statement.{statement}
@@ -39,7 +39,7 @@ returns c =
     let e : copiesLength + p .bytes - copiesLength ≡ p .bytes = omega arith in
     c .before .before .take-words .ensures .1
     ∙ ap (λ (n : ℕ). roomTaken (p .size) (p .words) (take n (drop copiesLength block)) room) e
-    ∙ words-taken (p .size) (p .words) (p .bytes) (fieldOf (p .bytes) block) room (field-long (p .bytes) block (s .pre .1 .0)) (s .pre .0) (s .pre .1 .1)
+    ∙ words-taken (p .size) (p .words) (p .bytes) (informationField (p .bytes) block) room (field-long (p .bytes) block (s .pre .1 .0)) (s .pre .0) (s .pre .1 .1)
 
 pub take-spec : {M : Type 1} → statement M
 take-spec =
