@@ -116,3 +116,15 @@ module _ {X : Type 0} (a : X) (f : ℕ → X) where
   -- what is read off it is the number, where it is so of both
   pub reads-number : (get : X → ℕ) → get a ≡ 0 → ((n : ℕ) → get (f n) ≡ n) → (n : ℕ) → get (pick (eqb n 0) a (f n)) ≡ n
   reads-number get ea ef n = either (λ (x : X). get x ≡ n) (eqb n 0) (λ e. ea ∙ sym (eqb-true n 0 e)) (λ _. ef n)
+
+-- grounds tested one list after another: the first list's, or where none of that holds the second's
+pub first-then : (gs hs : List Ground) → numbered gs ≡ true → firstOf (gs ++ hs) ≡ pick (eqb (firstOf gs) 0) (firstOf hs) (firstOf gs)
+first-then [] hs n = refl
+first-then (g ∷ gs) hs n =
+    let s = split (not (eqb (g .number) 0)) (numbered gs) n in
+    by (g .holds) (not-true (eqb (g .number) 0) (s .0)) (first-then gs hs (s .1))
+  where
+    by : (t : Bool) → eqb (g .number) 0 ≡ false → firstOf (gs ++ hs) ≡ pick (eqb (firstOf gs) 0) (firstOf hs) (firstOf gs)
+        → pick t (g .number) (firstOf (gs ++ hs)) ≡ pick (eqb (pick t (g .number) (firstOf gs)) 0) (firstOf hs) (pick t (g .number) (firstOf gs))
+    by true k e = sym (ap (λ (z : Bool). pick z (firstOf hs) (g .number)) k)
+    by false k e = e

@@ -4,3 +4,4 @@ pub mod LawsPlans
 pub mod LawsAgreed
 pub mod LawsAsks
 pub mod KeepsHeader
+pub mod LawsThen

@@ -1,13 +1,15 @@
 -- Bytes laid one after the other are laid joined; one element stored is one element laid; a block of room is filled piece by piece.
 -- Assumes nothing.
-use mathlib.Core.Path.{_≡_, refl, sym, ap, ap₂, _∙_}
+use mathlib.Core.Path.{_≡_, refl, sym, ap, ap₂, _∙_, subst}
 use mathlib.Core.List.{List, [], _∷_, _++_, append-nil, append-assoc}
 use Prim.Native.Nat.{ℕ, suc, _+_, _-_, _≤_, _<_}
 use native.Mathlib.Nat.{add-zero}
 use native.Mathlib.Omega.{arith}
-use lib.ListN.{length, getD, take, drop, set, length-append, length-take, length-drop, length-set, take-append-drop}
+use lib.ListN.{length, getD, take, drop, set, length-append, length-take, length-drop, length-set, take-append-drop, drop-of-length-le}
 use lib.Seq.{take-suc, drop-cons, set-at, take-at, drop-at, length-take-le, drop-drop}
-use Rattle.room.specs.Laid.{laid}
+use borrow.Author.Tests.{le-leb}
+use Rattle.ground.proofs.LawsChoice.{yes}
+use Rattle.room.specs.Laid.{laid, laidInside}
 
 pub laid-nil : (r : List ℕ) (w : ℕ) → laid r w [] ≡ r
 laid-nil r w = ap (λ (k : ℕ). take w r ++ drop k r) (add-zero w) ∙ take-append-drop w r
@@ -82,3 +84,20 @@ lay-turn src r at i h k =
 -- bytes laid behind bytes laid
 pub laid-then : (r : List ℕ) (w : ℕ) (xs ys : List ℕ) (k : ℕ) {r′ r″ : List ℕ} → r′ ≡ laid r w xs → r″ ≡ laid r′ k ys → k ≡ w + length xs → w ≤ length r → r″ ≡ laid r w (xs ++ ys)
 laid-then r w xs ys k {r′} {r″} e₁ e₂ e h = e₂ ∙ ap₂ (λ (q : List ℕ) (m : ℕ). laid q m ys) e₁ e ∙ laid-more r w xs ys h
+
+-- ---- what `lay` leaves, where the bytes end inside the room
+
+pub laid-inside : (r : List ℕ) (w : ℕ) (xs : List ℕ) → w + length xs ≤ length r → laidInside r w xs ≡ laid r w xs
+laid-inside r w xs h = sym (yes _ refl (le-leb (w + length xs) (length r) h) refl)
+
+-- bytes laid behind bytes laid, by `lay`
+pub lay-then : (r : List ℕ) (w : ℕ) (xs ys : List ℕ) (k : ℕ) {r′ r″ : List ℕ} → r′ ≡ laid r w xs → r″ ≡ laidInside r′ k ys
+    → k ≡ w + length xs → k + length ys ≤ length r → r″ ≡ laid r w (xs ++ ys)
+lay-then r w xs ys k {r′} {r″} e₁ e₂ e h =
+    laid-then r w xs ys k e₁ (e₂ ∙ laid-inside r′ k ys (subst (λ (n : ℕ). k + length ys ≤ n) (sym (ap length e₁ ∙ length-laid r w xs (omega arith))) h)) e (omega arith)
+
+-- bytes that fill the room are all of it
+pub laid-all : (r xs : List ℕ) → length r ≤ length xs → laid r 0 xs ≡ xs
+laid-all r xs h =
+    let l : length r ≤ 0 + length xs = omega arith in
+    ap (λ (t : List ℕ). xs ++ t) (drop-of-length-le r l) ∙ append-nil xs

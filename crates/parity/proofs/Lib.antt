@@ -1,0 +1,4 @@
+pub mod KeepsParity
+pub mod LawsFold
+pub mod LawsSections
+pub mod LawsWords

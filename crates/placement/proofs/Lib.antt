@@ -1,0 +1,5 @@
+pub mod KeepsPlacement
+pub mod LawsBelow
+pub mod LawsPlacement
+pub mod LawsRecords
+pub mod Rows

@@ -1,0 +1,64 @@
+-- Which channel and detector a record of a block holds, and what is answered when a placement is asked for.
+-- Assumes nothing.
+use Prim.Native.Nat.{ℕ, _-_}
+use mathlib.Core.Bool.{Bool, _||_}
+use mathlib.Core.List.{List, [], _∷_, map}
+use lib.Dec.{eqb, ltb}
+use lib.ListN.{length, getD, take, drop}
+use Rattle.ground.specs.Choice.{pick}
+use Rattle.ground.specs.Grounds.{_when_, firstOf}
+use Rattle.placement.specs.declared.Placed.{Placed}
+
+-- What a record holds. The scope's 4/1, channel 4 and detector 1, is `4 det 1`.
+pub record Held : Type 0 where
+  pub channel : ℕ
+  pub detector : ℕ
+
+infix 70 _det_
+abbrev pub _det_ : ℕ → ℕ → Held
+c det d = record { channel = c; detector = d }
+
+-- Versions 0, 1: block 1 is 4/1, 4/2, 5/1, 5/2; block 2 is 2/1, 2/2, 3/1.
+abbrev pub early : ℕ → List Held
+early block =
+    pick (eqb block 1) (4 det 1 ∷ 4 det 2 ∷ 5 det 1 ∷ 5 det 2 ∷ [])
+    (pick (eqb block 2) (2 det 1 ∷ 2 det 2 ∷ 3 det 1 ∷ []) [])
+
+-- Versions 2, 3: block 1 is 2/1, 2/2, 3/1, 3/2; block 2 is 4/1, 4/2, 6/1.
+abbrev pub late : ℕ → List Held
+late block =
+    pick (eqb block 1) (2 det 1 ∷ 2 det 2 ∷ 3 det 1 ∷ 3 det 2 ∷ [])
+    (pick (eqb block 2) (4 det 1 ∷ 4 det 2 ∷ 6 det 1 ∷ []) [])
+
+-- Blocks 3 to 10, every version: channel 1, detectors 5, 6, 7, 8, 1, 2, 3, 4.
+abbrev pub visible : ℕ → List Held
+visible block = take 1 (drop (block - 3) (map (λ d. 1 det d) (5 ∷ 6 ∷ 7 ∷ 8 ∷ 1 ∷ 2 ∷ 3 ∷ 4 ∷ [])))
+
+-- What the records of a block hold, in their order; blocks 0 and 11 have none.
+unfoldable pub heldIn : ℕ → ℕ → List Held
+heldIn block version = pick (ltb block 3) (pick (ltb version 2) (early block) (late block)) (visible block)
+
+unfoldable pub recordsIn : ℕ → ℕ → ℕ
+recordsIn block version = length (heldIn block version)
+
+-- Block without records, or no such record. Records count from 1.
+abbrev pub noRecord : ℕ → ℕ → ℕ → Bool
+noRecord block version k = eqb k 0 || ltb (recordsIn block version) k
+
+-- A placement asked for by block, version and record tests 4, 5, 13.
+abbrev pub groundOf : ℕ → ℕ → ℕ → ℕ
+groundOf block version k =
+    firstOf ((4 when ltb 11 block) ∷ (5 when ltb 3 version) ∷ (13 when noRecord block version k) ∷ [])
+
+abbrev pub accepted : Held → Placed
+accepted h = record { number = 0; channel = h .channel; detector = h .detector }
+
+-- A refusal returns its number; every other number in it is zero.
+abbrev pub refusedBy : ℕ → Placed
+refusedBy n = record { number = n; channel = 0; detector = 0 }
+
+unfoldable pub placeOf : ℕ → ℕ → ℕ → Placed
+placeOf block version k =
+    pick (eqb (groundOf block version k) 0)
+    (accepted (getD (heldIn block version) (k - 1) (0 det 0)))
+    (refusedBy (groundOf block version k))

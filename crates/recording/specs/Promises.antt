@@ -1,0 +1,20 @@
+-- What `foundAt` finds in a recording: behind the fields before it, the next field, or a cut one, or the end.
+-- Assumes nothing.
+use Prim.Native.Nat.{ℕ, _+_, _<_}
+use mathlib.Core.Path.{_≡_}
+use mathlib.Core.List.{List, _++_}
+use lib.ListN.{length, take, drop}
+use Rattle.recording.specs.Fields.{Field, written, joined}
+use Rattle.recording.specs.Found.{frontLength, foundAt}
+use Rattle.recording.specs.declared.Found.the-variants.{Whole, Cut, End}
+
+pub record Reads (before : List Field) : Type 0 where
+  -- a whole field is found, its body is where it is said to be, and the next one begins behind it
+  pub whole : (f : Field) (rest : List ℕ)
+      → foundAt (joined before ++ (written f ++ rest)) (length (joined before)) ≡ Whole (f .tag) (length (joined before) + frontLength) (length (f .body))
+  pub body : (f : Field) (rest : List ℕ)
+      → take (length (f .body)) (drop (length (joined before) + frontLength) (joined before ++ (written f ++ rest))) ≡ f .body
+  -- a recording that stops inside a field, behind its first byte at least, is cut
+  pub cut : (f : Field) (k : ℕ) → 0 < k → k < length (written f)
+      → foundAt (joined before ++ take k (written f)) (length (joined before)) ≡ Cut
+  pub end : foundAt (joined before) (length (joined before)) ≡ End

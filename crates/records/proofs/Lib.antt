@@ -1,0 +1,2 @@
+pub mod LawsRecords
+pub mod KeepsRecords

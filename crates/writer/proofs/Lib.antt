@@ -1,0 +1,2 @@
+pub mod LawsParts
+pub mod LawsWrite

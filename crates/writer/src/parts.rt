@@ -1,0 +1,86 @@
+// The parts of a block, each laid where it belongs.
+ghost use mathlib.Core.Path.{_≡_};
+ghost use mathlib.Core.List.{_++_};
+ghost use Prim.Native.Nat.{_+_, _-_, _≤_};
+ghost use lib.ListN.{length, take, drop};
+ghost use Rattle.ground.specs.Choice.{pick};
+ghost use Rattle.bits.specs.Fields.{putAnswer, fieldPut, allFit};
+ghost use Rattle.check_word.specs.Check.{checkWord, bytesOf};
+ghost use Rattle.room.specs.Laid.{laid};
+ghost use Rattle.writer.specs.Blocks.{sealed, copiesOf, blockOf};
+ghost use Rattle.row.specs.Promises.{Held};
+
+const HEADER_BYTES: usize = 28;
+
+const COPY_BYTES: usize = 30;
+
+// The field begins behind three header copies.
+pub const FIELD: usize = 90;
+
+// The two bytes of a check word, high byte first.
+fn check_bytes(message: &[u8]) -> [u8; 2]
+    ensures { λ r. ⌜ r ≡ bytesOf (checkWord (now (message .entry))) ⌝ }
+{
+    let check = check_word::check_word(message);
+    [(check / 256) as u8, (check % 256) as u8]
+}
+
+// A header copy: the 28 bytes and their check word.
+fn copy_of(header: &[u8]) -> [u8; 30]
+    requires { ⌜ length (now header) ≡ 28 ⌝ }
+    ensures { λ r. ⌜ r ≡ sealed (now (header .entry)) ⌝ }
+{
+    let mut copy = [0u8; 30];
+    room::lay(header, &mut copy, 0);
+    let check = check_bytes(header);
+    room::lay(&check, &mut copy, HEADER_BYTES);
+    copy
+}
+
+pub fn put_copies(header: &[u8], room: &mut [u8])
+    requires { ⌜ length (now header) ≡ 28 ⌝ }
+    requires { ⌜ 90 ≤ length (now room) ⌝ }
+    ensures { λ _. ⌜ now (room .exit) ≡ laid (now (room .entry)) 0 (copiesOf (now (header .entry))) ⌝ }
+{
+    let copy = copy_of(header);
+    room::lay(&copy, room, 0);
+    room::lay(&copy, room, COPY_BYTES);
+    room::lay(&copy, room, 2 * COPY_BYTES);
+}
+
+// The words into the field that ends at byte `end`. A refusal leaves the room as it was.
+pub fn put_field(words: &[u16], size: u8, room: &mut [u8], end: usize) -> u8
+    requires { ⌜ (90 ≤ end) × (end ≤ length (now room)) ⌝ }
+    ensures { λ r. ⌜ r ≡ putAnswer size (now (words .entry)) (end - 90) ⌝ }
+    ensures { λ r. ⌜ now (room .exit) ≡ take 90 (now (room .entry)) ++ (fieldPut size (now (words .entry)) (take (end - 90) (drop 90 (now (room .entry)))) ++ drop end (now (room .entry))) ⌝ }
+{
+    bits::put_words(words, size, &mut room[FIELD..end])
+}
+
+// The check word of the field that ends at byte `end`, behind it.
+pub fn put_check(room: &mut [u8], end: usize)
+    requires { ⌜ (90 ≤ end) × (end + 2 ≤ length (now room)) ⌝ }
+    ensures { λ _. ⌜ now (room .exit) ≡ laid (now (room .entry)) end (bytesOf (checkWord (take (end - 90) (drop 90 (now (room .entry)))))) ⌝ }
+{
+    let check = check_bytes(&room[FIELD..end]);
+    room::lay(&check, room, end);
+}
+
+// The block, from header, words and the length of its field, to the front of the room; or, where a word is too large, its refusal, and
+// the room as it was. The field comes first, because only it can refuse.
+pub fn put_block(header: &[u8], size: u8, bytes: usize, words: &[u16], room: &mut [u8]) -> u8
+    requires { ⌜ length (now header) ≡ 28 ⌝ }
+    requires { ⌜ Held size (length (now words)) bytes ⌝ }
+    requires { ⌜ bytes + 92 ≤ length (now room) ⌝ }
+    ensures { λ r. ⌜ r ≡ pick (allFit size (now (words .entry))) 0 14 ⌝ }
+    ensures { λ r. ⌜ now (room .exit) ≡ pick (allFit size (now (words .entry))) (blockOf (now (header .entry)) size bytes (now (words .entry)) ++ drop (bytes + 92) (now (room .entry))) (now (room .entry)) ⌝ }
+{
+    let end = FIELD + bytes;
+    let answer = put_field(words, size, room, end);
+    if answer != ground::ACCEPTED {
+        return answer;
+    }
+    put_copies(header, room);
+    put_check(room, end);
+    ground::ACCEPTED
+}
