@@ -1,6 +1,6 @@
 //! recordings DIR [SEED COUNT]: writes recordings for the listing program into DIR, each as NAME.rec beside the
 //! listing that the model gives it, NAME.txt: one with every answer that a listing can have, the printed example,
-//! an empty one, one cut in a tag, a length and a body each, and COUNT random ones.
+//! what the program `sample` makes, an empty one, one cut in a tag, a length and a body each, and COUNT random ones.
 
 use std::path::Path;
 use std::process::ExitCode;
@@ -90,6 +90,36 @@ fn example() -> Vec<u8> {
     [field(1, &block(3, 2)), field(1, &[0; 89])].concat()
 }
 
+/// What the program `sample` makes: a scan of a hundred pixels, blocks 11, and damaged fields.
+fn sample() -> Vec<u8> {
+    let made = |number: u8, size: u8, c: u16, version: u8| {
+        let mut header = header(id_of_block(number), size, version, c);
+        header[8] = 1;
+        let words: Vec<u16> = (0..c).map(|k| k % 61).collect();
+        let mut dest = vec![0; 32_000];
+        let (answer, length) = write(&header, &words, &mut dest);
+        assert_eq!(answer, 0);
+        dest.truncate(length);
+        dest
+    };
+    let mut bytes = Vec::new();
+    let mut add = |tag: u8, body: &[u8]| bytes.extend(field(tag, body));
+    add(1, &made(0, 8, 8_040, 2));
+    for number in 1..=10 {
+        add(1, &made(number, 10, c_of_n(number, 100) as u16, 2));
+    }
+    for (size, c, version) in [(8, 8_040, 0), (6, 10_720, 1), (10, 6_432, 2), (8, 8_040, 3)] {
+        add(1, &made(11, size, c, version));
+    }
+    let third = made(3, 10, 416, 2);
+    add(1, &with_bit(third.clone(), 5, 16));
+    add(1, &with_bit(third.clone(), 200, 1));
+    add(1, &third[..third.len() - 1]);
+    add(2, &third);
+    add(1, &third[..third.len() - 2_700]);
+    bytes
+}
+
 fn save(dir: &Path, name: &str, bytes: &[u8]) -> std::io::Result<()> {
     std::fs::write(dir.join(format!("{name}.rec")), bytes)?;
     std::fs::write(dir.join(format!("{name}.txt")), list(bytes))
@@ -98,6 +128,7 @@ fn save(dir: &Path, name: &str, bytes: &[u8]) -> std::io::Result<()> {
 fn save_all(dir: &Path, seed: u64, count: u64) -> std::io::Result<()> {
     save(dir, "every", &every_answer())?;
     save(dir, "example", &example())?;
+    save(dir, "sample", &sample())?;
     save(dir, "empty", &[])?;
     let whole = field(1, &block(5, 0));
     for (name, end) in [("cut-tag", 1), ("cut-length", 2), ("cut-front", 3), ("cut-body", 1_000)] {
