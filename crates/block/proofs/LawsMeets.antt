@@ -45,14 +45,14 @@ each-zero [] f = refl
 each-zero (b ∷ bs) f = both (eq-eqb b 0 (f 0)) (each-zero bs (λ i. f (suc i)))
 
 module _ (size words : ℕ) (field : List ℕ) where
-  fill-each : allZero (fillOf size words field) ≡ true → (i : ℕ) → words * size ≤ i → getD (sent field) i 0 ≡ 0
+  pub fill-each : allZero (fillOf size words field) ≡ true → (i : ℕ) → words * size ≤ i → getD (sent field) i 0 ≡ 0
   unfolding fillOf
   fill-each h i l =
       let e : words * size + (i - words * size) ≡ i = omega arith in
       ap (λ (k : ℕ). getD (sent field) k 0) (sym e) ∙ sym (getD-drop (words * size) (sent field) (i - words * size) 0)
       ∙ zero-each (drop (words * size) (sent field)) h (i - words * size)
 
-  each-fill : ((i : ℕ) → words * size ≤ i → getD (sent field) i 0 ≡ 0) → allZero (fillOf size words field) ≡ true
+  pub each-fill : ((i : ℕ) → words * size ≤ i → getD (sent field) i 0 ≡ 0) → allZero (fillOf size words field) ≡ true
   unfolding fillOf
   each-fill f = each-zero (drop (words * size) (sent field)) (λ i. getD-drop (words * size) (sent field) i 0 ∙ f (words * size + i) (omega arith))
 

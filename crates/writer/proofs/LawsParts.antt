@@ -17,11 +17,10 @@ use Rattle.bits.proofs.LawsFields.{length-fieldOf}
 use Rattle.check_word.specs.Check.{checkWord, bytesOf}
 use Rattle.room.specs.Laid.{laid, laidInside}
 use Rattle.room.proofs.LawsLaid.{laid-inside, lay-then, laid-all}
-use Rattle.writer.specs.Blocks.{sealed, copiesOf, blockOf}
 use Rattle.row.specs.Promises.{Held}
-
-pub length-sealed : (m : List ℕ) → length (sealed m) ≡ length m + 2
-length-sealed m = length-append m (bytesOf (checkWord m))
+use Rattle.block.specs.Layout.{blockLength}
+use Rattle.writer.specs.Blocks.{sealed, copiesOf, blockOf}
+use Rattle.writer.proofs.LawsBlocks.{length-sealed, copies-long}
 
 -- thirty zeros with the header laid into them, and its check behind it
 pub copy-made : (h : List ℕ) → length h ≡ 28 → {one two check : List ℕ} → one ≡ laidInside (replicate 30 0) 0 h → two ≡ laidInside one 28 check
@@ -59,7 +58,7 @@ put-answer size len ws h =
 
 -- ---- the block in the room
 
-module _ (h ws room : List ℕ) (size bytes : ℕ) (held : Held size (length ws) bytes) (roomy : bytes + 92 ≤ length room) where
+module _ (h ws room : List ℕ) (size bytes : ℕ) (held : Held size (length ws) bytes) (roomy : blockLength bytes ≤ length room) where
   abbrev part : List ℕ
   part = take (90 + bytes - 90) (drop 90 room)
 
@@ -95,27 +94,21 @@ module _ (h ws room : List ℕ) (size bytes : ℕ) (held : Held size (length ws)
       ∙ ap (λ (t : List ℕ). take 90 room ++ t) (take-append-drop bytes (drop 90 room)) ∙ take-append-drop 90 room
 
   abbrev Done : ℕ → List ℕ → Type 0
-  Done answer after = (answer ≡ pick (allFit size ws) 0 14) × (after ≡ pick (allFit size ws) (blockOf h size bytes ws ++ drop (bytes + 92) room) room)
+  Done answer after = (answer ≡ pick (allFit size ws) 0 14) × (after ≡ pick (allFit size ws) (blockOf h size bytes ws ++ drop (blockLength bytes) room) room)
 
   pub refused : {answer : ℕ} {one : List ℕ} → answer ≡ putAnswer size ws (90 + bytes - 90) → (answer ≡ 0 → ⊥) → one ≡ filled (fieldPut size ws part) → Done answer one
   refused {answer} {one} e no-zero put = by (allFit size ws) (e ∙ answer-is) (put ∙ ap filled field-put)
     where
       by : (t : Bool) → answer ≡ pick t 0 14 → one ≡ filled (pick t (fieldOf size bytes ws) part)
-          → (answer ≡ pick t 0 14) × (one ≡ pick t (blockOf h size bytes ws ++ drop (bytes + 92) room) room)
+          → (answer ≡ pick t 0 14) × (one ≡ pick t (blockOf h size bytes ws ++ drop (blockLength bytes) room) room)
       by true a o = absurd (no-zero a)
       by false a o = (a, o ∙ kept)
 
   module _ (l : length h ≡ 28) where
-    copies-long : length (copiesOf h) ≡ 90
-    copies-long =
-        let c = sealed h in
-        let long : length c ≡ 30 = length-sealed h ∙ omega arith in
-        length-append c (c ++ c) ∙ omega (arith, length-append c c)
-
     -- the field, the copies in front of it, and its check word behind it
     made : {one two three : List ℕ} → one ≡ filled (fieldOf size bytes ws) → two ≡ laid one 0 (copiesOf h)
         → three ≡ laid two (90 + bytes) (bytesOf (checkWord (take (90 + bytes - 90) (drop 90 two))))
-        → three ≡ blockOf h size bytes ws ++ drop (bytes + 92) room
+        → three ≡ blockOf h size bytes ws ++ drop (blockLength bytes) room
     unfolding blockOf
     made {one} {two} {three} e₁ e₂ e₃ =
         let f = fieldOf size bytes ws in
@@ -125,28 +118,27 @@ module _ (h ws room : List ℕ) (size bytes : ℕ) (held : Held size (length ws)
         let front : length (take 90 room) ≡ 90 = length-take-le 90 room (omega arith) in
         let long : length f ≡ bytes = length-fieldOf size bytes ws in
         let behind : drop (0 + length c) one ≡ f ++ rest =
-        ap₂ drop (zero-add (length c) ∙ copies-long) e₁ ∙ drop-at (take 90 room) (f ++ rest) 90 front in
+        ap₂ drop (zero-add (length c) ∙ copies-long h l) e₁ ∙ drop-at (take 90 room) (f ++ rest) 90 front in
         let two-is : two ≡ c ++ (f ++ rest) = e₂ ∙ ap (λ (t : List ℕ). c ++ t) behind in
         let field : take (90 + bytes - 90) (drop 90 two) ≡ f =
-        ap₂ take cut (ap (drop 90) two-is ∙ drop-at c (f ++ rest) 90 copies-long) ∙ take-at f rest bytes long in
-        let both : length (c ++ f) ≡ 90 + bytes = length-append c f ∙ omega (arith, copies-long) in
+        ap₂ take cut (ap (drop 90) two-is ∙ drop-at c (f ++ rest) 90 (copies-long h l)) ∙ take-at f rest bytes long in
+        let both : length (c ++ f) ≡ 90 + bytes = length-append c f ∙ omega (arith, copies-long h l) in
         let two-is′ : two ≡ (c ++ f) ++ rest = two-is ∙ sym (append-assoc c f rest) in
         let k = bytesOf (checkWord f) in
-        let last : 90 + bytes + 2 ≡ bytes + 92 = omega arith in
         e₃
         ∙ ap (λ (m : List ℕ). laid two (90 + bytes) (bytesOf (checkWord m))) field
         ∙ ap₂ (λ (x y : List ℕ). x ++ (k ++ y))
         (ap (take (90 + bytes)) two-is′ ∙ take-at (c ++ f) rest (90 + bytes) both)
-        (sym (drop-drop 2 (90 + bytes) two) ∙ ap (drop 2) (ap (drop (90 + bytes)) two-is′ ∙ drop-at (c ++ f) rest (90 + bytes) both) ∙ drop-drop 2 (90 + bytes) room ∙ ap (λ (n : ℕ). drop n room) last)
-        ∙ append-assoc c f (k ++ drop (bytes + 92) room)
-        ∙ ap (λ (t : List ℕ). c ++ t) (sym (append-assoc f k (drop (bytes + 92) room)))
-        ∙ sym (append-assoc c (f ++ k) (drop (bytes + 92) room))
+        (sym (drop-drop 2 (90 + bytes) two) ∙ ap (drop 2) (ap (drop (90 + bytes)) two-is′ ∙ drop-at (c ++ f) rest (90 + bytes) both) ∙ drop-drop 2 (90 + bytes) room)
+        ∙ append-assoc c f (k ++ drop (blockLength bytes) room)
+        ∙ ap (λ (t : List ℕ). c ++ t) (sym (append-assoc f k (drop (blockLength bytes) room)))
+        ∙ sym (append-assoc c (f ++ k) (drop (blockLength bytes) room))
 
     pub accepted : {answer : ℕ} {one two three : List ℕ} → answer ≡ putAnswer size ws (90 + bytes - 90) → answer ≡ 0 → one ≡ filled (fieldPut size ws part)
         → two ≡ laid one 0 (copiesOf h) → three ≡ laid two (90 + bytes) (bytesOf (checkWord (take (90 + bytes - 90) (drop 90 two)))) → Done 0 three
     accepted {answer} {one} {two} {three} e zero put e₂ e₃ = by (allFit size ws) (sym zero ∙ e ∙ answer-is) (put ∙ ap filled field-put)
       where
         by : (t : Bool) → _≡_ {A = ℕ} 0 (pick t 0 14) → one ≡ filled (pick t (fieldOf size bytes ws) part)
-            → (_≡_ {A = ℕ} 0 (pick t 0 14)) × (three ≡ pick t (blockOf h size bytes ws ++ drop (bytes + 92) room) room)
+            → (_≡_ {A = ℕ} 0 (pick t 0 14)) × (three ≡ pick t (blockOf h size bytes ws ++ drop (blockLength bytes) room) room)
         by true a o = (a, made o e₂ e₃)
         by false a o = absurd (let z : _≡_ {A = ℕ} 0 14 = a in omega arith)

@@ -1,7 +1,7 @@
 -- What writing a block answers, and what it leaves in the room lent.
 -- Assumes nothing.
-use Prim.Native.Nat.{ℕ, _+_}
-use mathlib.Core.Bool.{Bool, not}
+use Prim.Native.Nat.{ℕ}
+use mathlib.Core.Bool.{not}
 use mathlib.Core.List.{List, [], _∷_, _++_}
 use lib.Dec.{eqb, ltb}
 use lib.ListN.{length, drop}
@@ -10,16 +10,17 @@ use Rattle.ground.specs.Grounds.{Ground, _when_, firstOf}
 use Rattle.bits.specs.Fields.{allFit}
 use Rattle.header.specs.Says.{sizeIn, wordsIn, bytesIn}
 use Rattle.header.specs.Plans.{notHeader, unknownBlock, unknownVersion, wrongSize, wrongCount}
+use Rattle.block.specs.Layout.{blockLength}
 use Rattle.writer.specs.declared.Written.{Written}
 use Rattle.writer.specs.Blocks.{blockOf}
 
--- the bytes around a field: three header copies and the check word
-abbrev pub around : ℕ
-around = 92
-
 -- the bytes of the block that a header asks for
 abbrev pub blockBytes : List ℕ → ℕ
-blockBytes header = bytesIn header + around
+blockBytes header = blockLength (bytesIn header)
+
+-- the block that a header and words make
+abbrev pub writtenBlock : (header words : List ℕ) → List ℕ
+writtenBlock header words = blockOf header (sizeIn header) (bytesIn header) words
 
 -- 8: words not exactly the required number; 9: lent room smaller than needed; 14: a word too large for its size
 abbrev pub wordGrounds : (header words : List ℕ) → ℕ → List Ground
@@ -30,8 +31,8 @@ wordGrounds header words room =
     ∷ []
 
 -- the writer takes 28 header bytes and words and tests 1, 4 to 8, 9, 14
-abbrev pub groundsOf : (header words : List ℕ) → ℕ → List Ground
-groundsOf header words room =
+abbrev pub writeGrounds : (header words : List ℕ) → ℕ → List Ground
+writeGrounds header words room =
     (1 when notHeader header)
     ∷ (4 when unknownBlock header)
     ∷ (5 when unknownVersion header)
@@ -39,8 +40,8 @@ groundsOf header words room =
     ∷ (7 when wrongCount header)
     ∷ wordGrounds header words room
 
-unfoldable pub refusalOf : (header words : List ℕ) → ℕ → ℕ
-refusalOf header words room = firstOf (groundsOf header words room)
+unfoldable pub writeRefusal : (header words : List ℕ) → ℕ → ℕ
+writeRefusal header words room = firstOf (writeGrounds header words room)
 
 abbrev pub refusedWritten : ℕ → Written
 refusedWritten n = record { number = n; bytes = 0 }
@@ -48,10 +49,10 @@ refusedWritten n = record { number = n; bytes = 0 }
 -- acceptance returns the count of the bytes written
 unfoldable pub writtenOf : (header words : List ℕ) → ℕ → Written
 writtenOf header words room =
-    pick (eqb (refusalOf header words room) 0) (record { number = 0; bytes = blockBytes header }) (refusedWritten (refusalOf header words room))
+    pick (eqb (writeRefusal header words room) 0) (record { number = 0; bytes = blockBytes header }) (refusedWritten (writeRefusal header words room))
 
 -- the block stands at the front of the room, and nothing behind it has changed; a refusal leaves the room unchanged
-unfoldable pub roomAfter : (header words room : List ℕ) → List ℕ
-roomAfter header words room =
-    pick (eqb (refusalOf header words (length room)) 0)
-    (blockOf header (sizeIn header) (bytesIn header) words ++ drop (blockBytes header) room) room
+unfoldable pub roomWritten : (header words room : List ℕ) → List ℕ
+roomWritten header words room =
+    pick (eqb (writeRefusal header words (length room)) 0)
+    (writtenBlock header words ++ drop (blockBytes header) room) room

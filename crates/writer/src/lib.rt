@@ -1,7 +1,8 @@
 // The writer: 28 header bytes and words into lent room, as three equal header copies, the field with zero fill, and its check word.
 ghost use mathlib.Core.Path.{_≡_};
 ghost use lib.ListN.{length};
-ghost use Rattle.writer.specs.Answers.{refusedWritten, writtenOf, roomAfter};
+ghost use Rattle.writer.specs.Answers.{refusedWritten, writtenOf, roomWritten};
+use header::COPIES_BYTES;
 
 mod parts;
 
@@ -11,8 +12,8 @@ pub struct Written {
     pub bytes: usize,
 }
 
-// The bytes around a field: three header copies and the check word.
-const AROUND: usize = 92;
+// The check word behind the field.
+const CHECK_BYTES: usize = 2;
 
 fn refused(number: u8) -> Written
     ensures { λ r. ⌜ r ≡ refusedWritten number ⌝ }
@@ -26,7 +27,7 @@ fn refused(number: u8) -> Written
 // Writes a block to the front of the room, which may be longer. A refusal leaves the room as it was.
 pub fn write(header: &[u8], words: &[u16], room: &mut [u8]) -> Written
     ensures { λ r. ⌜ r ≡ writtenOf (now (header .entry)) (now (words .entry)) (length (now (room .entry))) ⌝ }
-    ensures { λ r. ⌜ now (room .exit) ≡ roomAfter (now (header .entry)) (now (words .entry)) (now (room .entry)) ⌝ }
+    ensures { λ r. ⌜ now (room .exit) ≡ roomWritten (now (header .entry)) (now (words .entry)) (now (room .entry)) ⌝ }
 {
     let plan = header::plan_of(header);
     if plan.number != ground::ACCEPTED {
@@ -35,7 +36,7 @@ pub fn write(header: &[u8], words: &[u16], room: &mut [u8]) -> Written
     if words.len() != plan.words {
         return refused(ground::WRONG_LENGTH);
     }
-    let bytes = plan.bytes + AROUND;
+    let bytes = COPIES_BYTES + plan.bytes + CHECK_BYTES;
     if room.len() < bytes {
         return refused(ground::SMALL_ROOM);
     }

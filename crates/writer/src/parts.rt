@@ -7,15 +7,15 @@ ghost use Rattle.ground.specs.Choice.{pick};
 ghost use Rattle.bits.specs.Fields.{putAnswer, fieldPut, allFit};
 ghost use Rattle.check_word.specs.Check.{checkWord, bytesOf};
 ghost use Rattle.room.specs.Laid.{laid};
-ghost use Rattle.writer.specs.Blocks.{sealed, copiesOf, blockOf};
 ghost use Rattle.row.specs.Promises.{Held};
-
-const HEADER_BYTES: usize = 28;
+ghost use Rattle.header.specs.Says.{headerLength};
+ghost use Rattle.header.specs.Copies.{copiesLength};
+ghost use Rattle.block.specs.Layout.{checkLength, blockLength, informationField};
+ghost use Rattle.writer.specs.Blocks.{sealed, copiesOf, blockOf};
+use header::COPIES_BYTES;
+use header::HEADER_BYTES;
 
 const COPY_BYTES: usize = 30;
-
-// The field begins behind three header copies.
-pub const FIELD: usize = 90;
 
 // The two bytes of a check word, high byte first.
 fn check_bytes(message: &[u8]) -> [u8; 2]
@@ -27,7 +27,7 @@ fn check_bytes(message: &[u8]) -> [u8; 2]
 
 // A header copy: the 28 bytes and their check word.
 fn copy_of(header: &[u8]) -> [u8; 30]
-    requires { ⌜ length (now header) ≡ 28 ⌝ }
+    requires { ⌜ length (now header) ≡ headerLength ⌝ }
     ensures { λ r. ⌜ r ≡ sealed (now (header .entry)) ⌝ }
 {
     let mut copy = [0u8; 30];
@@ -38,8 +38,8 @@ fn copy_of(header: &[u8]) -> [u8; 30]
 }
 
 pub fn put_copies(header: &[u8], room: &mut [u8])
-    requires { ⌜ length (now header) ≡ 28 ⌝ }
-    requires { ⌜ 90 ≤ length (now room) ⌝ }
+    requires { ⌜ length (now header) ≡ headerLength ⌝ }
+    requires { ⌜ copiesLength ≤ length (now room) ⌝ }
     ensures { λ _. ⌜ now (room .exit) ≡ laid (now (room .entry)) 0 (copiesOf (now (header .entry))) ⌝ }
 {
     let copy = copy_of(header);
@@ -50,32 +50,32 @@ pub fn put_copies(header: &[u8], room: &mut [u8])
 
 // The words into the field that ends at byte `end`. A refusal leaves the room as it was.
 pub fn put_field(words: &[u16], size: u8, room: &mut [u8], end: usize) -> u8
-    requires { ⌜ (90 ≤ end) × (end ≤ length (now room)) ⌝ }
-    ensures { λ r. ⌜ r ≡ putAnswer size (now (words .entry)) (end - 90) ⌝ }
-    ensures { λ r. ⌜ now (room .exit) ≡ take 90 (now (room .entry)) ++ (fieldPut size (now (words .entry)) (take (end - 90) (drop 90 (now (room .entry)))) ++ drop end (now (room .entry))) ⌝ }
+    requires { ⌜ (copiesLength ≤ end) × (end ≤ length (now room)) ⌝ }
+    ensures { λ r. ⌜ r ≡ putAnswer size (now (words .entry)) (end - copiesLength) ⌝ }
+    ensures { λ r. ⌜ now (room .exit) ≡ take copiesLength (now (room .entry)) ++ (fieldPut size (now (words .entry)) (informationField (end - copiesLength) (now (room .entry))) ++ drop end (now (room .entry))) ⌝ }
 {
-    bits::put_words(words, size, &mut room[FIELD..end])
+    bits::put_words(words, size, &mut room[COPIES_BYTES..end])
 }
 
 // The check word of the field that ends at byte `end`, behind it.
 pub fn put_check(room: &mut [u8], end: usize)
-    requires { ⌜ (90 ≤ end) × (end + 2 ≤ length (now room)) ⌝ }
-    ensures { λ _. ⌜ now (room .exit) ≡ laid (now (room .entry)) end (bytesOf (checkWord (take (end - 90) (drop 90 (now (room .entry)))))) ⌝ }
+    requires { ⌜ (copiesLength ≤ end) × (end + checkLength ≤ length (now room)) ⌝ }
+    ensures { λ _. ⌜ now (room .exit) ≡ laid (now (room .entry)) end (bytesOf (checkWord (informationField (end - copiesLength) (now (room .entry))))) ⌝ }
 {
-    let check = check_bytes(&room[FIELD..end]);
+    let check = check_bytes(&room[COPIES_BYTES..end]);
     room::lay(&check, room, end);
 }
 
 // The block, from header, words and the length of its field, to the front of the room; or, where a word is too large, its refusal, and
 // the room as it was. The field comes first, because only it can refuse.
 pub fn put_block(header: &[u8], size: u8, bytes: usize, words: &[u16], room: &mut [u8]) -> u8
-    requires { ⌜ length (now header) ≡ 28 ⌝ }
+    requires { ⌜ length (now header) ≡ headerLength ⌝ }
     requires { ⌜ Held size (length (now words)) bytes ⌝ }
-    requires { ⌜ bytes + 92 ≤ length (now room) ⌝ }
+    requires { ⌜ blockLength bytes ≤ length (now room) ⌝ }
     ensures { λ r. ⌜ r ≡ pick (allFit size (now (words .entry))) 0 14 ⌝ }
-    ensures { λ r. ⌜ now (room .exit) ≡ pick (allFit size (now (words .entry))) (blockOf (now (header .entry)) size bytes (now (words .entry)) ++ drop (bytes + 92) (now (room .entry))) (now (room .entry)) ⌝ }
+    ensures { λ r. ⌜ now (room .exit) ≡ pick (allFit size (now (words .entry))) (blockOf (now (header .entry)) size bytes (now (words .entry)) ++ drop (blockLength bytes) (now (room .entry))) (now (room .entry)) ⌝ }
 {
-    let end = FIELD + bytes;
+    let end = COPIES_BYTES + bytes;
     let answer = put_field(words, size, room, end);
     if answer != ground::ACCEPTED {
         return answer;

@@ -2,7 +2,7 @@
 -- Assumes nothing.
 use native.Mathlib.Omega.{arith}
 use Rattle.header.proofs.LawsThen.{plan-long}
-use Rattle.writer.proofs.LawsWrite.{header-refused, length-refused, room-refused, held, word-refused, block-written}
+use Rattle.writer.proofs.LawsWrite.{plan-brief, header-refused, length-refused, room-refused, held, word-refused, block-written}
 use borrow.Author.Needs.{needs}
 use Rattle.writer.proofs.write.Statement.{statement}
 use Rattle.writer.proofs.write.Tie as tie
@@ -27,9 +27,10 @@ returns-2 c =
     length-refused (a .header .now) (a .words .now) (a .room .now) (c .before .before .before .before .before .plan-of .ensures) (c .before .before .before .if1 .left) (c .before .if2 .taken) (c .refused2 .ensures)
 
 add-bytes : tie.Need-add-bytes
-add-bytes c =
-    let a = c .before .before .before .before .before .before .before .before .before .args in
-    omega (arith, held (a .header .now) (a .words .now) (a .room .now) (c .before .before .before .before .before .plan-of .ensures) (c .before .before .before .if1 .left) (c .before .if2 .left) .short)
+add-bytes c = omega (arith, plan-brief _ (c .before .before .before .before .before .plan-of .ensures))
+
+add-bytes-2 : tie.Need-add-bytes-2
+add-bytes-2 c = omega (arith, plan-brief _ (c .before .before .before .before .before .plan-of .ensures))
 
 refused-requires-3 : tie.Need-refused-requires-3
 refused-requires-3 c κs = search needs
@@ -79,6 +80,7 @@ write-spec =
     refused-requires-2
     returns-2
     add-bytes
+    add-bytes-2
     refused-requires-3
     returns-3
     put-block-requires

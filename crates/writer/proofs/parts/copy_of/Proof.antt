@@ -1,12 +1,5 @@
 -- `writer::parts::copy_of` meets its contract: the header, then its check behind it, fill the thirty bytes.
 -- Assumes nothing.
-use mathlib.Core.Path.{_≡_, refl, sym, ap, _∙_}
-use mathlib.Core.List.{List, _++_}
-use Prim.Native.Nat.{ℕ}
-use native.Mathlib.Omega.{arith}
-use lib.ListN.{length, replicate, length-append}
-use Rattle.check_word.specs.Check.{checkWord, bytesOf}
-use Rattle.room.proofs.LawsLaid.{laid-inside, lay-then, laid-all}
 use Rattle.writer.proofs.LawsParts.{copy-made}
 use borrow.Author.Needs.{needs}
 use Rattle.writer.proofs.parts.copy_of.Statement.{statement}

@@ -1,12 +1,10 @@
 -- `writer::parts::put_check` meets its contract: the check word of the field as it stands, behind it.
 -- Assumes nothing.
-use mathlib.Core.Path.{_≡_, sym, ap, _∙_}
-use mathlib.Core.List.{List}
+use mathlib.Core.Path.{ap, _∙_}
 use Prim.Native.Nat.{_-_}
-use native.Mathlib.Omega.{arith}
-use lib.ListN.{length, take, drop}
+use lib.ListN.{take, drop}
 use Rattle.check_word.specs.Check.{checkWord, bytesOf}
-use Rattle.room.specs.Laid.{laid, laidInside}
+use Rattle.room.specs.Laid.{laidInside}
 use Rattle.room.proofs.LawsLaid.{laid-inside}
 use borrow.Author.Needs.{needs}
 use Rattle.writer.proofs.parts.put_check.Statement.{statement}

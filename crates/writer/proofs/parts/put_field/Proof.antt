@@ -1,13 +1,13 @@
 -- `writer::parts::put_field` meets its contract: what is put into the part lent stands between what is in front of it and behind it.
 -- Assumes nothing.
-use mathlib.Core.Path.{_≡_, refl, sym, ap, ap₂, _∙_}
+use mathlib.Core.Path.{_≡_, ap, ap₂, _∙_}
 use mathlib.Core.List.{List, _++_}
 use Prim.Native.Nat.{ℕ, _-_}
 use native.Mathlib.Omega.{arith}
 use lib.ListN.{length, take, drop, length-drop}
 use lib.Seq.{length-take-le}
 use borrow.Rule.Slice.PartMut.{post-is}
-use Rattle.bits.specs.Fields.{putAnswer, fieldPut}
+use Rattle.bits.specs.Fields.{putAnswer}
 use borrow.Author.Needs.{needs}
 use Rattle.writer.proofs.parts.put_field.Statement.{statement}
 use Rattle.writer.proofs.parts.put_field.Tie as tie
