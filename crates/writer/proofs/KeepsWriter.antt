@@ -3,7 +3,7 @@
 -- Assumes nothing.
 use Prim.Native.Nat.{ℕ, _^_, _≤_}
 use mathlib.Core.Path.{_≡_, refl, sym, ap, ap₂, _∙_, subst}
-use mathlib.Core.Bool.{not}
+use mathlib.Core.Bool.{true, not}
 use mathlib.Core.List.{List, _++_}
 use native.Mathlib.Omega.{arith}
 use lib.ListN.{length, drop}
@@ -73,7 +73,7 @@ module _ (h ws : List ℕ) where
 
     asks-writable : (room : ℕ) → blockLength (fieldBytes (a .number) (length ws)) ≤ room → Writable h ws room
     asks-writable room r =
-        let fits : allFit (sizeIn h) ws ≡ _ = below-fit (sizeIn h) ws (subst (λ (w : ℕ). Below (2 ^ w) ws) (sym (a .asks .size)) (a .sized)) in
+        let fits : allFit (sizeIn h) ws ≡ true = below-fit (sizeIn h) ws (subst (λ (w : ℕ). Below (2 ^ w) ws) (sym (a .asks .size)) (a .sized)) in
         refuses-in-order h ws room
         ∙ none-first (writeGrounds h ws room)
         (none-append (planGrounds h) (wordGrounds h ws room) (ap not (eq-eqb (length h) headerLength (a .long)), asks-none (a .asks))

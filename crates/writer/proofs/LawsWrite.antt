@@ -21,7 +21,7 @@ use Rattle.header.proofs.LawsThen.{header-decides, others-decide, plan-is, plan
 use Rattle.block.specs.Layout.{blockLength}
 use Rattle.writer.specs.declared.Written.{Written}
 use Rattle.writer.specs.Blocks.{blockOf}
-use Rattle.writer.specs.Answers.{blockBytes, wordGrounds, writeRefusal, refusedWritten, writtenOf, roomWritten}
+use Rattle.writer.specs.Answers.{blockBytes, writtenBlock, wordGrounds, writeRefusal, refusedWritten, writtenOf, roomWritten}
 
 module _ (h ws : List ℕ) where
   module _ (room : List ℕ) where
@@ -29,10 +29,10 @@ module _ (h ws : List ℕ) where
     unfolding writtenOf roomWritten
     refused {n} e f = (
       refuses (record { number = 0; bytes = blockBytes h }) refusedWritten e f,
-      refuses (blockOf h (sizeIn h) (bytesIn h) ws ++ drop (blockBytes h) room) (λ _. room) e f,
+      refuses (writtenBlock h ws ++ drop (blockBytes h) room) (λ _. room) e f,
     )
 
-    pub accepted : writeRefusal h ws (length room) ≡ 0 → {after : List ℕ} → after ≡ blockOf h (sizeIn h) (bytesIn h) ws ++ drop (blockBytes h) room
+    pub accepted : writeRefusal h ws (length room) ≡ 0 → {after : List ℕ} → after ≡ writtenBlock h ws ++ drop (blockBytes h) room
         → (record { number = 0; bytes = blockBytes h } ≡ writtenOf h ws (length room)) × (after ≡ roomWritten h ws room)
     unfolding writtenOf roomWritten
     accepted e {after} a = (accepts (record { number = 0; bytes = blockBytes h }) refusedWritten e, a ∙ accepts _ (λ _. room) e)
