@@ -3,18 +3,14 @@
 -- Assumes nothing.
 use Prim.Native.Nat.{ℕ}
 use mathlib.Core.Path.{_≡_, refl, sym, ap, _∙_}
+use mathlib.Core.Logic.{_↔_}
 use mathlib.Core.Bool.{Bool, true, false, not, _&&_}
 use mathlib.Core.List.{List, [], _∷_, _++_}
 use lib.Dec.{eqb}
 use borrow.Author.Tests.{eqb-true, eqb-false, eq-eqb, ne-eqb, not-true}
 use Rattle.ground.specs.Choice.{pick}
-use Rattle.ground.specs.Grounds.{Ground, firstOf}
+use Rattle.ground.specs.Grounds.{Ground, firstOf, NoneHolds}
 use Rattle.ground.proofs.LawsChoice.{yes, no, either, split}
-
--- none of them holds
-abbrev pub NoneHolds : List Ground → Type 0
-NoneHolds [] = Unit {0}
-NoneHolds (g ∷ gs) = (g .holds ≡ false) × NoneHolds gs
 
 -- none has the number 0, which is acceptance
 abbrev pub numbered : List Ground → Bool
@@ -33,9 +29,81 @@ first-none (g ∷ gs) n e = let s = split (not (eqb (g .number) 0)) (numbered gs
     go true h n e f = absurd (eqb-false (g .number) 0 (not-true (eqb (g .number) 0) n) e)
     go false h n e f = (h, f e)
 
+pub none-append : (xs ys : List Ground) → NoneHolds xs → NoneHolds ys → NoneHolds (xs ++ ys)
+none-append [] ys h k = k
+none-append (g ∷ gs) ys h k = (h .0, none-append gs ys (h .1) k)
+
 pub first-is : (before : List Ground) (g : Ground) (after : List Ground) → NoneHolds before → g .holds ≡ true → firstOf (before ++ (g ∷ after)) ≡ g .number
 first-is [] g after h e = ap (λ (t : Bool). pick t (g .number) (firstOf after)) e
 first-is (b ∷ bs) g after h e = ap (λ (t : Bool). pick t (b .number) (firstOf (bs ++ (g ∷ after)))) (h .0) ∙ first-is bs g after (h .1) e
+
+-- no ground of a list has this number; and no two have one
+abbrev pub absent : ℕ → List Ground → Bool
+absent n [] = true
+absent n (g ∷ gs) = not (eqb (g .number) n) && absent n gs
+
+abbrev pub distinct : List Ground → Bool
+distinct [] = true
+distinct (g ∷ gs) = absent (g .number) gs && distinct gs
+
+never-first : (n : ℕ) (gs : List Ground) → (n ≡ 0 → ⊥) → absent n gs ≡ true → firstOf gs ≡ n → ⊥
+never-first n [] z a e = z (sym e)
+never-first n (g ∷ gs) z a e = let s = split (not (eqb (g .number) n)) (absent n gs) a in go (g .holds) (s .0) e (never-first n gs z (s .1))
+  where
+    go : (t : Bool) → not (eqb (g .number) n) ≡ true → pick t (g .number) (firstOf gs) ≡ n → (firstOf gs ≡ n → ⊥) → ⊥
+    go true a e f = eqb-false (g .number) n (not-true (eqb (g .number) n) a) e
+    go false a e f = f e
+
+absent-at : (n : ℕ) (before : List Ground) (g : Ground) (after : List Ground) → absent n (before ++ (g ∷ after)) ≡ true → g .number ≡ n → ⊥
+absent-at n [] g after a e = eqb-false (g .number) n (not-true (eqb (g .number) n) (split (not (eqb (g .number) n)) (absent n after) a .0)) e
+absent-at n (b ∷ bs) g after a e = absent-at n bs g after (split (not (eqb (b .number) n)) (absent n (bs ++ (g ∷ after))) a .1) e
+
+first-holds : (before : List Ground) (g : Ground) (after : List Ground) → numbered (before ++ (g ∷ after)) ≡ true → distinct (before ++ (g ∷ after)) ≡ true
+    → firstOf (before ++ (g ∷ after)) ≡ g .number → NoneHolds before × (g .holds ≡ true)
+first-holds [] g after n d e = go (g .holds) refl e
+  where
+    go : (t : Bool) → g .holds ≡ t → pick t (g .number) (firstOf after) ≡ g .number → Unit {0} × (g .holds ≡ true)
+    go true h e = (tt, h)
+    go false h e =
+        absurd
+        (never-first (g .number) after (eqb-false (g .number) 0 (not-true (eqb (g .number) 0) (split (not (eqb (g .number) 0)) (numbered after) n .0)))
+        (split (absent (g .number) after) (distinct after) d .0) e)
+first-holds (b ∷ bs) g after n d e =
+    let x = split (not (eqb (b .number) 0)) (numbered (bs ++ (g ∷ after))) n in
+    let y = split (absent (b .number) (bs ++ (g ∷ after))) (distinct (bs ++ (g ∷ after))) d in
+    go (b .holds) refl (absent-at (b .number) bs g after (y .0)) e (first-holds bs g after (x .1) (y .1))
+  where
+    go : (t : Bool) → b .holds ≡ t → (g .number ≡ b .number → ⊥) → pick t (b .number) (firstOf (bs ++ (g ∷ after))) ≡ g .number
+        → (firstOf (bs ++ (g ∷ after)) ≡ g .number → NoneHolds bs × (g .holds ≡ true)) → NoneHolds (b ∷ bs) × (g .holds ≡ true)
+    go true h f e k = absurd (f (sym e))
+    go false h f e k = let r = k e in ((h, r .0), r .1)
+
+-- a number is given exactly where its ground holds and none before it does
+pub exactly : (gs before : List Ground) (g : Ground) (after : List Ground) → numbered gs ≡ true → distinct gs ≡ true → gs ≡ before ++ (g ∷ after)
+    → (firstOf gs ≡ g .number) ↔ (NoneHolds before × (g .holds ≡ true))
+exactly gs before g after n d e = (
+  λ f. first-holds before g after (sym (ap numbered e) ∙ n) (sym (ap distinct e) ∙ d) (sym (ap firstOf e) ∙ f),
+  λ h. ap firstOf e ∙ first-is before g after (h .0) (h .1),
+)
+
+-- where x and y are equal if n is 0, so are what is picked by it
+pub join : (n : ℕ) {x y : ℕ} → (n ≡ 0 → x ≡ y) → pick (eqb n 0) x n ≡ pick (eqb n 0) y n
+join n {x} {y} f = go (eqb n 0) refl
+  where
+    go : (t : Bool) → eqb n 0 ≡ t → pick t x n ≡ pick t y n
+    go true e = f (eqb-true n 0 e)
+    go false e = refl
+
+-- the grounds of one list come before those of the next
+pub first-append : (xs ys : List Ground) → numbered xs ≡ true → pick (eqb (firstOf xs) 0) (firstOf ys) (firstOf xs) ≡ firstOf (xs ++ ys)
+first-append [] ys n = refl
+first-append (g ∷ gs) ys n =
+    let s = split (not (eqb (g .number) 0)) (numbered gs) n in go (g .holds) (not-true (eqb (g .number) 0) (s .0)) (first-append gs ys (s .1))
+  where
+    go : (t : Bool) → eqb (g .number) 0 ≡ false → pick (eqb (firstOf gs) 0) (firstOf ys) (firstOf gs) ≡ firstOf (gs ++ ys)
+        → pick (eqb (pick t (g .number) (firstOf gs)) 0) (firstOf ys) (pick t (g .number) (firstOf gs)) ≡ pick t (g .number) (firstOf (gs ++ ys))
+    go true e h = ap (λ (t : Bool). pick t (firstOf ys) (g .number)) e
+    go false e h = h
 
 -- an answer that goes by a refusal's number: a where it is 0, and f of it where it is not
 module _ {X : Type 0} (a : X) (f : ℕ → X) where

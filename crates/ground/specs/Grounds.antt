@@ -2,7 +2,8 @@
 -- that of the first ground that holds.
 -- Assumes nothing.
 use Prim.Native.Nat.{ℕ}
-use mathlib.Core.Bool.{Bool}
+use mathlib.Core.Path.{_≡_}
+use mathlib.Core.Bool.{Bool, false}
 use mathlib.Core.List.{List, [], _∷_}
 use Rattle.ground.specs.Choice.{pick}
 
@@ -18,3 +19,8 @@ n when t = record { number = n; holds = t }
 abbrev pub firstOf : List Ground → ℕ
 firstOf [] = 0
 firstOf (g ∷ gs) = pick (g .holds) (g .number) (firstOf gs)
+
+-- none of them holds
+abbrev pub NoneHolds : List Ground → Type 0
+NoneHolds [] = Unit {0}
+NoneHolds (g ∷ gs) = (g .holds ≡ false) × NoneHolds gs

@@ -1,20 +1,24 @@
 -- The promises of the header: both answers go by the first ground that holds, and none holds exactly where the facts do.
 -- Assumes nothing.
-use Prim.Native.Nat.{ℕ}
+use Prim.Native.Nat.{ℕ, _≤_}
 use mathlib.Core.Path.{_≡_, refl, sym, _∙_}
 use mathlib.Core.List.{List}
 use native.Mathlib.Omega.{arith}
+use lib.Dec.{lit≤, eqb}
 use lib.ListN.{length, getD, set, length-set}
 use lib.Seq.{getD-set-other}
 use borrow.Author.Tests.{eqb-true, not-false}
 use Rattle.ground.specs.Grounds.{firstOf}
+use Rattle.ground.proofs.LawsChoice.{either}
 use Rattle.ground.proofs.LawsGrounds.{accepts, refuses, reads-number, none-first, first-none}
 use Rattle.bits.specs.Bits.{Below}
 use Rattle.row.specs.Field.{fieldBytes}
+use Rattle.row.specs.Promises.{longestField, Held}
 use Rattle.row.proofs.LawsRow.{row-records}
+use Rattle.row.proofs.LawsField.{words-held}
 use Rattle.header.specs.declared.Common.{Common}
 use Rattle.header.specs.declared.Plan.{Plan}
-use Rattle.header.specs.Says.{headerLength, blockIn, sizeIn, wordsIn, versionIn}
+use Rattle.header.specs.Says.{headerLength, blockIn, sizeIn, wordsIn, versionIn, bytesIn}
 use Rattle.header.specs.Copies.{copyAt, commonIn, copiesGrounds, foundCommon, refusedCommon, commonOf}
 use Rattle.header.specs.Plans.{planGrounds, headerGrounds, grantedPlan, refusedPlan, planOf}
 use Rattle.header.specs.Agreed.{Agreed}
@@ -83,6 +87,16 @@ module _ (h : List ℕ) where
   plan-only e =
       let n = first-none (planGrounds h) refl (sym plan-number ∙ e) in
       (eqb-true (length h) headerLength (not-false _ (n .0)), none-asks h (n .1))
+
+  -- the field of a plan holds its words, and no plan has a longer one than the longest
+  pub plan-held : planOf h .number ≡ 0 → Held (sizeIn h) (wordsIn h) (bytesIn h)
+  plan-held e = words-held _ _ _ _ (plan-only e .1 .suits)
+
+  pub plan-short : planOf h .bytes ≤ longestField
+  unfolding planOf
+  plan-short =
+      either (λ (p : Plan). p .bytes ≤ longestField) (eqb (firstOf (planGrounds h)) 0)
+      (λ e. plan-held (plan-number ∙ eqb-true (firstOf (planGrounds h)) 0 e) .short) (λ _. lit≤ tt)
 
 pub grants-asked : GrantsAsked
 grants-asked = record { given = plan-asked; only = plan-only; zeros = plan-refused }

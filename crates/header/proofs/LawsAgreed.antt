@@ -10,8 +10,8 @@ use lib.ListN.{length, drop, getD, length-drop}
 use lib.Seq.{length-take-le}
 use borrow.Author.Tests.{ltb-false, le-ltb, not-true, not-false}
 use Rattle.ground.specs.Choice.{pick}
+use Rattle.ground.specs.Grounds.{NoneHolds}
 use Rattle.ground.proofs.LawsChoice.{neither}
-use Rattle.ground.proofs.LawsGrounds.{NoneHolds}
 use Rattle.bits.specs.Bits.{Below}
 use Rattle.bits.proofs.LawsBelow.{below-take, below-drop}
 use Rattle.check_word.specs.Check.{generator, passes}
@@ -31,7 +31,7 @@ each P a b c (suc (suc (suc k))) h = absurd (omega arith)
 pub copy-long : (block : List ℕ) → copiesLength ≤ length block → (k : ℕ) → k < 3 → length (copyAt k block) ≡ copyLength
 copy-long block l k h = length-take-le copyLength (drop (k * copyLength) block) (omega (arith, length-drop (k * copyLength) block))
 
-copy-bytes : (block : List ℕ) → Below 256 block → (k : ℕ) → Below 256 (copyAt k block)
+pub copy-bytes : (block : List ℕ) → Below 256 block → (k : ℕ) → Below 256 (copyAt k block)
 copy-bytes block b k = below-take 256 copyLength (drop (k * copyLength) block) (below-drop 256 (k * copyLength) block b)
 
 never : {X : Type 0} {t : Bool} → t ≡ false → t ≡ true → X

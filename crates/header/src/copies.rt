@@ -9,8 +9,7 @@ ghost use Rattle.check_word.specs.Check.{passes};
 ghost use Rattle.header.specs.Says.{headerLength};
 ghost use Rattle.header.specs.Copies.{copiesLength, copyAt, sameAs, refusedCommon, agreedOf};
 use crate::Common;
-
-pub const COPIES_BYTES: usize = 90;
+use crate::HEADER_BYTES;
 
 const COPY_BYTES: usize = 30;
 
@@ -58,7 +57,7 @@ fn front(copy: [u8; 30]) -> [u8; 28]
     ensures { λ r. ⌜ r ≡ take headerLength copy ⌝ }
 {
     let mut bytes = [0u8; 28];
-    room::lay(&copy[..28], &mut bytes, 0);
+    room::lay(&copy[..HEADER_BYTES], &mut bytes, 0);
     bytes
 }
 

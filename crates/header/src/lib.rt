@@ -7,6 +7,11 @@ mod copies;
 mod plans;
 mod says;
 
+// A header as it is given back and lent, without its check word; and the three copies in front of a field.
+pub const HEADER_BYTES: usize = 28;
+
+pub const COPIES_BYTES: usize = 90;
+
 // What the three copies have in common, with number 0: the header's 28 bytes, and which copies passed; or a refusal's number and zeros.
 pub struct Common {
     pub number: u8,
@@ -31,7 +36,7 @@ pub struct Plan {
 pub fn common_copy(block: &[u8]) -> Common
     ensures { λ r. ⌜ r ≡ commonOf (now (block .entry)) ⌝ }
 {
-    if block.len() < copies::COPIES_BYTES {
+    if block.len() < COPIES_BYTES {
         return copies::refused(ground::NO_HEADER);
     }
     let a = copies::copy_at(block, 0);
@@ -44,7 +49,7 @@ pub fn common_copy(block: &[u8]) -> Common
 pub fn plan_of(header: &[u8]) -> Plan
     ensures { λ r. ⌜ r ≡ planOf (now (header .entry)) ⌝ }
 {
-    if header.len() != says::HEADER_BYTES {
+    if header.len() != HEADER_BYTES {
         return plans::refused(ground::NO_HEADER);
     }
     let number = plans::refusal(header);

@@ -5,8 +5,6 @@ ghost use lib.ListN.{length};
 ghost use Rattle.header.specs.Says.{headerLength, numberOf, blockIn, countIn, rowIn};
 use row::Row;
 
-pub const HEADER_BYTES: usize = 28;
-
 // The bytes that hold words 1, 2, 3 with 4, and 8.
 pub const ID: usize = 0;
 

@@ -1,1 +1,3 @@
 pub mod KeepsPromises
+pub mod LawsFound
+pub mod LawsLines

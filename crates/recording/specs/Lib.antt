@@ -1,3 +1,4 @@
 pub mod Fields
 pub mod Found
+pub mod Lines
 pub mod Promises

@@ -1,7 +1,10 @@
-// A recording: tagged fields, one after the other (specs/Fields.antt), and what stands in it from a byte on.
+// A recording: tagged fields, one after the other (specs/Fields.antt); what stands in it from a byte on, and the line that the listing
+// has for a field.
 ghost use mathlib.Core.Path.{_≡_};
 ghost use Prim.Native.Nat.{_<_};
+ghost use lib.ListN.{length};
 ghost use Rattle.recording.specs.Found.{foundAt};
+ghost use Rattle.recording.specs.Lines.{refusedLine, lineOf, roomListed};
 
 // A tag and a length of two bytes stand in front of a body.
 pub const FRONT: usize = 3;
@@ -38,4 +41,48 @@ pub fn next_field(bytes: &[u8], at: usize) -> Found
         return Found::Cut;
     }
     Found::Whole(bytes[at], at + FRONT, length)
+}
+
+// The tag of a field that holds a block.
+pub const BLOCK: u8 = 1;
+
+// What a field is answered; of a refusal the other numbers are zero, and the listing shows dashes for them.
+pub struct Line {
+    pub answer: u8,
+    pub block: u8,
+    pub version: u8,
+    pub words: usize,
+}
+
+fn refused(number: u8) -> Line
+    ensures { λ r. ⌜ r ≡ refusedLine number ⌝ }
+{
+    Line {
+        answer: number,
+        block: 0,
+        version: 0,
+        words: 0,
+    }
+}
+
+// The line of a field, which is read like any block where its tag says that it holds one.
+pub fn line_of(tag: u8, body: &[u8], room: &mut [u16]) -> Line
+    ensures { λ r. ⌜ r ≡ lineOf tag (now (body .entry)) (length (now (room .entry))) ⌝ }
+    ensures { λ r. ⌜ now (room .exit) ≡ roomListed tag (now (body .entry)) (now (room .entry)) ⌝ }
+{
+    if tag != BLOCK {
+        return refused(ground::OTHER_FIELD);
+    }
+    let answer = block::read(body, room);
+    if answer.number != ground::ACCEPTED {
+        return refused(answer.number);
+    }
+    let header = answer.header;
+    let plan = header::plan_of(&header);
+    Line {
+        answer: ground::ACCEPTED,
+        block: plan.block,
+        version: plan.version,
+        words: answer.words,
+    }
 }

@@ -9,7 +9,7 @@ use native.Mathlib.Omega.{arith}
 use borrow.Author.Tests.{lt-ltb, le-ltb, eqb-true, eqb-false, ltb-false}
 use lib.Dec.{eqb, ltb}
 use Rattle.ground.proofs.LawsChoice.{yes, no, either, neither}
-use Rattle.ground.proofs.LawsGrounds.{NoneHolds, none-first, first-none, accepts, refuses}
+use Rattle.ground.proofs.LawsGrounds.{none-first, first-none, accepts, refuses}
 use Rattle.row.specs.Rows.{recordsIn, rowOf, visibleRow}
 use Rattle.row.specs.Suits.{Suits, zeroth, first, second, others, last6, last8, last10}
 use Rattle.row.specs.declared.Row.{Row}

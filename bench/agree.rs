@@ -1,0 +1,170 @@
+//! agree SEED COUNT: the three baselines against the model.
+
+#[allow(dead_code)]
+mod idiomatic;
+
+use independent::compare::{case_of, Case};
+use independent::inputs::{draft, Dice};
+use independent::library::{Library, Model};
+use independent::{check, rows, words};
+
+type Check = unsafe extern "C" fn(*const u8, usize) -> u16;
+type Unpack = unsafe extern "C" fn(*const u8, usize, usize, *mut u16, usize);
+type Pack = unsafe extern "C" fn(*const u16, usize, usize, *mut u8, usize);
+type Read = unsafe extern "C" fn(*const u8, usize, *mut u16, usize, *mut u8) -> usize;
+type Write = unsafe extern "C" fn(*const u8, usize, *const u16, usize, *mut u8, usize) -> usize;
+
+extern "C" {
+    fn plain_check(bytes: *const u8, len: usize) -> u16;
+    fn plain_unpack(field: *const u8, field_len: usize, size: usize, words: *mut u16, count: usize);
+    fn plain_pack(words: *const u16, count: usize, size: usize, field: *mut u8, field_len: usize);
+    fn plain_read(block: *const u8, len: usize, room: *mut u16, room_len: usize, header: *mut u8) -> usize;
+    fn plain_write(
+        h: *const u8,
+        hl: usize,
+        words: *const u16,
+        count: usize,
+        dest: *mut u8,
+        dl: usize,
+    ) -> usize;
+    fn good_check(bytes: *const u8, len: usize) -> u16;
+    fn good_unpack(field: *const u8, field_len: usize, size: usize, words: *mut u16, count: usize);
+    fn good_pack(words: *const u16, count: usize, size: usize, field: *mut u8, field_len: usize);
+    fn good_read(block: *const u8, len: usize, room: *mut u16, room_len: usize, header: *mut u8) -> usize;
+    fn good_write(
+        h: *const u8,
+        hl: usize,
+        words: *const u16,
+        count: usize,
+        dest: *mut u8,
+        dl: usize,
+    ) -> usize;
+}
+
+struct Baseline {
+    name: &'static str,
+    check: Check,
+    unpack: Unpack,
+    pack: Pack,
+    read: Read,
+    write: Write,
+}
+
+use idiomatic::c::{idiomatic_check, idiomatic_pack, idiomatic_read, idiomatic_unpack, idiomatic_write};
+
+const ALL: [Baseline; 3] = [
+    Baseline {
+        name: "plain",
+        check: plain_check,
+        unpack: plain_unpack,
+        pack: plain_pack,
+        read: plain_read,
+        write: plain_write,
+    },
+    Baseline {
+        name: "good",
+        check: good_check,
+        unpack: good_unpack,
+        pack: good_pack,
+        read: good_read,
+        write: good_write,
+    },
+    Baseline {
+        name: "idiomatic",
+        check: idiomatic_check,
+        unpack: idiomatic_unpack,
+        pack: idiomatic_pack,
+        read: idiomatic_read,
+        write: idiomatic_write,
+    },
+];
+
+fn check_word(baseline: &Baseline, bytes: &[u8]) {
+    let got = unsafe { (baseline.check)(bytes.as_ptr(), bytes.len()) };
+    assert_eq!(got, check::check_word(bytes), "{} check {bytes:02X?}", baseline.name);
+}
+
+fn reading(baseline: &Baseline, block: &[u8], room: &[u16]) -> usize {
+    let mut expected = room.to_vec();
+    let answer = Model.read(block, &mut expected);
+    let header = if answer.number == 0 { answer.header } else { [0xC3; 28] };
+    let mut after = room.to_vec();
+    let mut got = [0xC3; 28];
+    let number = unsafe {
+        (baseline.read)(block.as_ptr(), block.len(), after.as_mut_ptr(), after.len(), got.as_mut_ptr())
+    };
+    assert_eq!(number, answer.number as usize, "{} read {block:02X?}", baseline.name);
+    assert!(after == expected && got == header, "{} read {block:02X?}", baseline.name);
+    number
+}
+
+fn writing(baseline: &Baseline, header: &[u8], words: &[u16], dest: &[u8]) {
+    let mut expected = dest.to_vec();
+    let (answer, _) = Model.write(header, words, &mut expected);
+    let mut after = dest.to_vec();
+    let (h, w, d) = (header.as_ptr(), words.as_ptr(), after.as_mut_ptr());
+    let number = unsafe { (baseline.write)(h, header.len(), w, words.len(), d, after.len()) };
+    assert_eq!(number, answer as usize, "{} write {header:02X?} {words:04X?}", baseline.name);
+    assert!(after == expected, "{} write {header:02X?} {words:04X?}", baseline.name);
+}
+
+/// Fields with and without fill, and counts that leave a rest of one to three.
+fn packing(baseline: &Baseline, dice: &mut Dice) {
+    let size = dice.pick(&[6, 8, 10]);
+    let count = dice.below(60);
+    let data: Vec<u16> = (0..count).map(|_| dice.below(1 << size) as u16).collect();
+    let length = (size * count).div_ceil(8) + dice.below(7);
+    let field = words::pack(&data, size, length);
+    let mut got = vec![0xEE; length];
+    unsafe { (baseline.pack)(data.as_ptr(), count, size, got.as_mut_ptr(), length) };
+    assert_eq!(got, field, "{} pack {size} {data:04X?}", baseline.name);
+    let mut room = vec![0xEEEE; count];
+    unsafe { (baseline.unpack)(field.as_ptr(), length, size, room.as_mut_ptr(), count) };
+    assert_eq!(room, data, "{} unpack {size} {field:02X?}", baseline.name);
+}
+
+fn main() {
+    let numbers: Vec<u64> = std::env::args().skip(1).filter_map(|text| text.parse().ok()).collect();
+    let [seed, count] = numbers[..] else {
+        eprintln!("usage: agree SEED COUNT");
+        std::process::exit(2);
+    };
+    let mut runs = [0; 5];
+    for number in 0..count {
+        let case = case_of(seed, number);
+        let mut dice = Dice::for_case(!seed, number);
+        let sound = draft(&mut dice);
+        let room = 92 + rows::field_bits(sound.block, sound.words.len()) / 8;
+        for baseline in &ALL {
+            match &case {
+                Case::CheckWord { bytes } => {
+                    check_word(baseline, bytes);
+                    runs[0] += 1;
+                }
+                Case::Read { block, room, .. } => {
+                    let number = reading(baseline, block, room);
+                    runs[1] += 1;
+                    runs[2] += (number == 0) as u64;
+                }
+                Case::Write { header, words, dest, .. } => {
+                    writing(baseline, header, words, dest);
+                    runs[3] += 1;
+                }
+                _ => packing(baseline, &mut dice),
+            }
+            if number % 16 == 0 {
+                writing(baseline, &sound.header, &sound.words, &vec![0x5A; room + 3]);
+                runs[3] += 1;
+            }
+        }
+        if !matches!(case, Case::CheckWord { .. } | Case::Read { .. } | Case::Write { .. }) {
+            runs[4] += ALL.len() as u64;
+        }
+    }
+    let [checks, reads, accepted, writes, packs] = runs;
+    println!(
+        "{} baselines agree with the model: {checks} check words, {reads} reads ({accepted} accepted), \
+         {writes} writes, {packs} packings",
+        ALL.len()
+    );
+}

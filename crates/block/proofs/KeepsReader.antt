@@ -1,0 +1,126 @@
+-- The reader's promises on refusals and on acceptance: its answer and its room go by the first ground that holds, and none holds exactly
+-- where the block meets the specification and is given room.
+-- Assumes nothing.
+use Prim.Native.Nat.{ℕ, _≤_}
+use mathlib.Core.Path.{_≡_, refl, sym, ap, _∙_}
+use mathlib.Core.Logic.{_↔_}
+use mathlib.Core.Bool.{Bool, true}
+use mathlib.Core.List.{List, [], _∷_, _++_}
+use lib.ListN.{length, drop}
+use borrow.Author.Tests.{ltb-false, le-ltb}
+use Rattle.ground.specs.Grounds.{_when_}
+use Rattle.ground.proofs.LawsGrounds.{accepts, refuses, reads-number, none-first, first-none, exactly}
+use Rattle.bits.specs.Bits.{Below, spell, words, sent}
+use Rattle.bits.specs.Fields.{wordsOf}
+use Rattle.bits.proofs.LawsWords.{words-spell}
+use Rattle.check_word.specs.Check.{generator, passes}
+use Rattle.check_word.specs.Finds.{Passes}
+use Rattle.check_word.proofs.LawsPasses.{passes-true, true-passes}
+use Rattle.row.specs.Field.{fieldBytes}
+use Rattle.header.specs.Says.{wordsIn}
+use Rattle.header.specs.Copies.{copiesLength, copyAt, tooShort, noCopyPasses, headerIn}
+use Rattle.header.proofs.LawsAgreed.{copy-bytes, none-passes, passes-none}
+use Rattle.block.specs.declared.Answer.{Answer}
+use Rattle.block.specs.Layout.{informationField}
+use Rattle.block.specs.Grounds.{groundsOf, refusalOf}
+use Rattle.block.specs.Answers.{refusedAnswer, acceptedAnswer, answerOf, wordsBy, roomAfter}
+use Rattle.block.specs.Meets.{Meets}
+use Rattle.block.specs.Promises.{Accepted, RefusesInOrder, RefusesExactly, RefusalLeaves, TwoExactly, AcceptsExactly, AnswersTruly, GivesWords}
+use Rattle.block.proofs.LawsMeets.{none-meets, meets-none, header-is, words-are, size-is, bytes-are, refused-9}
+
+-- ---- refusals
+
+pub refuses-in-order : RefusesInOrder
+unfolding answerOf refusalOf
+refuses-in-order block room = reads-number (acceptedAnswer block) refusedAnswer (λ (r : Answer). r .number) refl (λ n. refl) (refusalOf block room)
+
+pub refuses-exactly : RefusesExactly
+refuses-exactly block room before g after e =
+    let k = exactly (groundsOf block (headerIn block) room) before g after refl refl e in
+    let n = refuses-in-order block room in
+    (λ f. k .0 (sym n ∙ f), λ h. n ∙ k .1 h)
+
+number-is : (block : List ℕ) (room : ℕ) → answerOf block room .number ≡ refusalOf block room
+unfolding refusalOf
+number-is = refuses-in-order
+
+refused-zeros : (block : List ℕ) (room : ℕ) → (Accepted block room → ⊥) → answerOf block room ≡ refusedAnswer (answerOf block room .number)
+unfolding answerOf
+refused-zeros block room f = sym (refuses (acceptedAnswer block) refusedAnswer (sym (number-is block room)) f)
+
+refused-room : (block room : List ℕ) → (Accepted block (length room) → ⊥) → roomAfter block room ≡ room
+unfolding roomAfter
+refused-room block room f = sym (refuses (wordsBy (headerIn block) block ++ drop (wordsIn (headerIn block)) room) (λ (_ : ℕ). room) (sym (number-is block (length room))) f)
+
+pub refusal-leaves : RefusalLeaves
+refusal-leaves = record { zeros = refused-zeros; unchanged = refused-room }
+
+pub two-exactly : TwoExactly
+two-exactly block room bytes =
+    let k = refuses-exactly block room ((1 when tooShort block) ∷ []) (2 when noCopyPasses block) _ refl in (
+      λ e. let h = k .0 e in record { long = ltb-false (length block) copiesLength (h .0 .0); none = none-passes block bytes (h .1) },
+      λ n. k .1 ((le-ltb (length block) copiesLength (n .long), tt), passes-none block bytes (n .none)),
+    )
+
+-- ---- demand 2
+
+module _ (block : List ℕ) (bytes : Below 256 block) where
+  refusal-none : (room : ℕ) (m : Meets block) → m .words ≤ room → refusalOf block room ≡ 0
+  unfolding refusalOf
+  refusal-none room m r = none-first (groundsOf block (headerIn block) room) (meets-none block bytes room m r)
+
+  pub meets-answer : (room : ℕ) (m : Meets block) → m .words ≤ room → answerOf block room ≡ acceptedAnswer block
+  unfolding answerOf
+  meets-answer room m r = sym (accepts (acceptedAnswer block) refusedAnswer (refusal-none room m r))
+
+  pub accepted-meets : (room : ℕ) → Accepted block room → (m : Meets block) × (m .words ≤ room)
+  accepted-meets room e = none-meets block bytes room (first-none (groundsOf block (headerIn block) room) refl (sym (refuses-in-order block room) ∙ e))
+
+  accepted-answer : (room : ℕ) → Accepted block room → answerOf block room ≡ acceptedAnswer block
+  accepted-answer room e = let k = accepted-meets room e in meets-answer room (k .0) (k .1)
+
+  -- a mark that says whether a copy passes says so truly
+  marked : (room k : ℕ) (get : Answer → Bool) → get (acceptedAnswer block) ≡ passes (copyAt k block) → Accepted block room
+      → (get (answerOf block room) ≡ true) ↔ Passes generator (copyAt k block)
+  marked room k get e a =
+      let f = ap get (accepted-answer room a) ∙ e in
+      (λ t. passes-true (copyAt k block) (copy-bytes block bytes k) (sym f ∙ t), λ p. f ∙ true-passes (copyAt k block) p)
+
+pub accepts-exactly : AcceptsExactly
+accepts-exactly =
+    record {
+      accepts = λ block room bytes m r. ap (λ (x : Answer). x .number) (meets-answer block bytes room m r);
+      only = λ block room bytes. accepted-meets block bytes room;
+      small = λ block room bytes m r. refuses-in-order block room ∙ refused-9 block bytes (m .agreed) (m .asks) (m .long) room r;
+    }
+
+pub answers-truly : AnswersTruly
+answers-truly =
+    record {
+      header = λ block room bytes m r. ap (λ (x : Answer). x .header) (meets-answer block bytes room m r) ∙ header-is block bytes (m .agreed) (m .asks) (m .long);
+      count = λ block room bytes m r. ap (λ (x : Answer). x .words) (meets-answer block bytes room m r) ∙ words-are block bytes (m .agreed) (m .asks) (m .long);
+      first = λ block room bytes. marked block bytes room 0 (λ (x : Answer). x .first) refl;
+      second = λ block room bytes. marked block bytes room 1 (λ (x : Answer). x .second) refl;
+      third = λ block room bytes. marked block bytes room 2 (λ (x : Answer). x .third) refl;
+    }
+
+pub words-cut : (block room : List ℕ) → Below 256 block → (m : Meets block) → m .words ≤ length room
+    → roomAfter block room ≡ words (m .size) (m .words) (sent (informationField (fieldBytes (m .number) (m .words)) block)) ++ drop (m .words) room
+unfolding roomAfter wordsOf
+words-cut block room bytes m r =
+    let sz = size-is block bytes (m .agreed) (m .asks) (m .long) in
+    let ws = words-are block bytes (m .agreed) (m .asks) (m .long) in
+    let by = bytes-are block bytes (m .agreed) (m .asks) (m .long) in
+    sym (accepts (wordsBy (headerIn block) block ++ drop (wordsIn (headerIn block)) room) (λ (_ : ℕ). room) (refusal-none block bytes (length room) m r))
+    ∙ (λ i. wordsOf (sz i) (ws i) (informationField (by i) block) ++ drop (ws i) room)
+
+pub gives-words : GivesWords
+gives-words =
+    record {
+      cut = words-cut;
+      sent-ones =
+          λ block room ws fill bytes m r l fit e.
+          words-cut block room bytes m r
+          ∙ ap (λ (bits : List ℕ). words (m .size) (m .words) bits ++ drop (m .words) room) e
+          ∙ ap (λ (v : List ℕ). v ++ drop (m .words) room) (ap (λ (n : ℕ). words (m .size) n (spell (m .size) ws ++ fill)) (sym l) ∙ words-spell (m .size) ws fill fit);
+    }

@@ -1,0 +1,4 @@
+pub mod LawsReader
+pub mod LawsMeets
+pub mod KeepsReader
+pub mod KeepsAltered

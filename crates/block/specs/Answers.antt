@@ -1,0 +1,38 @@
+-- What reading a block answers, and what it leaves in the room lent.
+-- Assumes nothing.
+use Prim.Native.Nat.{ℕ}
+use mathlib.Core.Bool.{false}
+use mathlib.Core.List.{List, _++_}
+use lib.Dec.{eqb}
+use lib.ListN.{length, drop, replicate}
+use Rattle.ground.specs.Choice.{pick}
+use Rattle.bits.specs.Fields.{wordsOf}
+use Rattle.header.specs.declared.Common.{Common}
+use Rattle.header.specs.Says.{headerLength, sizeIn, wordsIn, bytesIn}
+use Rattle.header.specs.Copies.{copyAt, headerIn, foundCommon}
+use Rattle.block.specs.declared.Answer.{Answer}
+use Rattle.block.specs.Layout.{informationField}
+use Rattle.block.specs.Grounds.{refusalOf}
+
+-- every count, mark and header byte in a refusal is zero
+abbrev pub refusedAnswer : ℕ → Answer
+refusedAnswer n = record { number = n; header = replicate headerLength 0; first = false; second = false; third = false; words = 0 }
+
+-- the common header, which copies passed, and the count of words
+abbrev pub answerWith : Common → ℕ → Answer
+answerWith common words =
+    record { number = 0; header = common .header; first = common .first; second = common .second; third = common .third; words = words }
+
+abbrev pub acceptedAnswer : List ℕ → Answer
+acceptedAnswer block = answerWith (foundCommon (copyAt 0 block) (copyAt 1 block) (copyAt 2 block)) (wordsIn (headerIn block))
+
+unfoldable pub answerOf : List ℕ → ℕ → Answer
+answerOf block room = pick (eqb (refusalOf block room) 0) (acceptedAnswer block) (refusedAnswer (refusalOf block room))
+
+-- the words of the field that the header h asks for
+abbrev pub wordsBy : (h block : List ℕ) → List ℕ
+wordsBy h block = wordsOf (sizeIn h) (wordsIn h) (informationField (bytesIn h) block)
+
+-- acceptance writes the C words at the front of the room and nothing behind them; a refusal leaves it unchanged
+unfoldable pub roomAfter : (block room : List ℕ) → List ℕ
+roomAfter block room = pick (eqb (refusalOf block (length room)) 0) (wordsBy (headerIn block) block ++ drop (wordsIn (headerIn block)) room) room

@@ -1,0 +1,72 @@
+-- Every ground on which the reader refuses a block, each with its number, in the order of the tests.
+-- Assumes nothing.
+use Prim.Native.Nat.{ℕ, _+_, _%_}
+use mathlib.Core.Bool.{Bool, not}
+use mathlib.Core.List.{List, [], _∷_}
+use lib.Dec.{eqb, ltb}
+use lib.ListN.{length, drop}
+use Rattle.ground.specs.Choice.{pick}
+use Rattle.ground.specs.Grounds.{Ground, _when_, firstOf}
+use Rattle.bits.specs.Fields.{fillOf, allZero}
+use Rattle.check_word.specs.Check.{passes}
+use Rattle.header.specs.declared.Plan.{Plan}
+use Rattle.header.specs.Says.{sizeIn, wordsIn, bytesIn}
+use Rattle.header.specs.Copies.{copiesLength, tooShort, noCopyPasses, copiesDiffer, headerIn}
+use Rattle.header.specs.Plans.{unknownBlock, unknownVersion, wrongSize, wrongCount}
+use Rattle.block.specs.Layout.{blockLength, informationField}
+
+-- 8: block bytes not exactly the required number
+abbrev pub wrongLength : ℕ → List ℕ → Bool
+wrongLength bytes block = not (eqb (length block) (blockLength bytes))
+
+-- 17: check word not on a 16-bit boundary of the block
+abbrev pub offBoundary : ℕ → Bool
+offBoundary bytes = not (eqb ((copiesLength + bytes) % 2) 0)
+
+-- 9: lent room smaller than needed
+abbrev pub smallRoom : ℕ → ℕ → Bool
+smallRoom words room = ltb room words
+
+-- 10: block check disagrees: it covers the information field, and follows it
+abbrev pub checkDisagrees : List ℕ → Bool
+checkDisagrees block = not (passes (drop copiesLength block))
+
+-- 11: a fill bit is 1
+abbrev pub fillNotZero : (size words : ℕ) → List ℕ → Bool
+fillNotZero size words field = not (allZero (fillOf size words field))
+
+-- of the field, which has so many words of a size in so many bytes
+abbrev pub fieldGrounds : (size words bytes : ℕ) → List ℕ → ℕ → List Ground
+fieldGrounds size words bytes block room =
+    (8 when wrongLength bytes block)
+    ∷ (17 when offBoundary bytes)
+    ∷ (9 when smallRoom words room)
+    ∷ (10 when checkDisagrees block)
+    ∷ (11 when fillNotZero size words (informationField bytes block))
+    ∷ []
+
+-- what the reader makes its number of: the copies' come before the plan's, and the plan's before the field's
+abbrev pub firstIn : ℕ → Plan → List ℕ → ℕ → ℕ
+firstIn copies plan block room =
+    pick (eqb copies 0) (pick (eqb (plan .number) 0) (firstOf (fieldGrounds (plan .size) (plan .words) (plan .bytes) block room)) (plan .number)) copies
+
+-- of a block with the common header h, lent room for so many words
+abbrev pub groundsOf : (block h : List ℕ) → ℕ → List Ground
+groundsOf block h room =
+    (1 when tooShort block)
+    ∷ (2 when noCopyPasses block)
+    ∷ (3 when copiesDiffer block)
+    ∷ (4 when unknownBlock h)
+    ∷ (5 when unknownVersion h)
+    ∷ (6 when wrongSize h)
+    ∷ (7 when wrongCount h)
+    ∷ (8 when wrongLength (bytesIn h) block)
+    ∷ (17 when offBoundary (bytesIn h))
+    ∷ (9 when smallRoom (wordsIn h) room)
+    ∷ (10 when checkDisagrees block)
+    ∷ (11 when fillNotZero (sizeIn h) (wordsIn h) (informationField (bytesIn h) block))
+    ∷ []
+
+-- the number given is that of the first that holds, 0 where none does
+unfoldable pub refusalOf : List ℕ → ℕ → ℕ
+refusalOf block room = firstOf (groundsOf block (headerIn block) room)

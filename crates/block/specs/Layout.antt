@@ -1,0 +1,16 @@
+-- How a block as lent is laid out: 90 bytes of header, the information field, and 2 bytes of check word.
+-- Assumes nothing.
+use Prim.Native.Nat.{ℕ, _+_}
+use mathlib.Core.List.{List}
+use lib.ListN.{take, drop}
+use Rattle.header.specs.Copies.{copiesLength}
+
+abbrev pub checkLength : ℕ
+checkLength = 2
+
+-- of a block whose field has so many bytes
+abbrev pub blockLength : ℕ → ℕ
+blockLength bytes = copiesLength + bytes + checkLength
+
+abbrev pub informationField : ℕ → List ℕ → List ℕ
+informationField bytes block = take bytes (drop copiesLength block)

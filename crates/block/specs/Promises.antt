@@ -1,0 +1,100 @@
+-- What the reader promises of blocks, which are bytes.
+-- Assumes nothing.
+use Prim.Native.Nat.{ℕ, _^_, _<_, _≤_}
+use mathlib.Core.Path.{_≡_}
+use mathlib.Core.Logic.{_↔_, _⊎_}
+use mathlib.Core.Bool.{true}
+use mathlib.Core.List.{List, _∷_, _++_}
+use lib.ListN.{length, take, drop}
+use Rattle.ground.specs.Grounds.{Ground, firstOf, NoneHolds}
+use Rattle.bits.specs.Bits.{Below, spell, words, sent}
+use Rattle.bits.specs.Runs.{Altered}
+use Rattle.check_word.specs.Check.{generator}
+use Rattle.check_word.specs.Finds.{Passes}
+use Rattle.row.specs.Field.{fieldBytes}
+use Rattle.header.specs.Says.{headerLength}
+use Rattle.header.specs.Copies.{copyLength, copyAt, headerIn}
+use Rattle.header.specs.Agreed.{NoneAgreed}
+use Rattle.block.specs.Layout.{informationField}
+use Rattle.block.specs.Grounds.{groundsOf}
+use Rattle.block.specs.Answers.{refusedAnswer, answerOf, roomAfter}
+use Rattle.block.specs.Meets.{Meets}
+
+abbrev pub Accepted : List ℕ → ℕ → Type 0
+Accepted block room = answerOf block room .number ≡ 0
+
+-- ---- refusals
+
+-- The number given is that of the first ground of the list that holds.
+abbrev pub RefusesInOrder : Type 0
+RefusesInOrder = (block : List ℕ) (room : ℕ) → answerOf block room .number ≡ firstOf (groundsOf block (headerIn block) room)
+
+-- Each refusal is given exactly on its ground: it holds, and none before it in the list does.
+abbrev pub RefusesExactly : Type 0
+RefusesExactly =
+    (block : List ℕ) (room : ℕ) (before : List Ground) (g : Ground) (after : List Ground) → groundsOf block (headerIn block) room ≡ before ++ (g ∷ after)
+    → (answerOf block room .number ≡ g .number) ↔ (NoneHolds before × (g .holds ≡ true))
+
+-- Every count, mark and header byte in a refusal is zero, and it leaves every lent word unchanged.
+pub record RefusalLeaves : Type 0 where
+  pub zeros : (block : List ℕ) (room : ℕ) → (Accepted block room → ⊥) → answerOf block room ≡ refusedAnswer (answerOf block room .number)
+  pub unchanged : (block room : List ℕ) → (Accepted block (length room) → ⊥) → roomAfter block room ≡ room
+
+-- Refusal 2 is given exactly when 90 bytes are there and none of the three copies passes.
+abbrev pub TwoExactly : Type 0
+TwoExactly = (block : List ℕ) (room : ℕ) → Below 256 block → (answerOf block room .number ≡ 2) ↔ NoneAgreed block
+
+-- ---- demand 2
+
+-- A block that is given room is accepted exactly when it meets the specification; one that meets it and is given less is refusal 9.
+pub record AcceptsExactly : Type 0 where
+  pub accepts : (block : List ℕ) (room : ℕ) → Below 256 block → (m : Meets block) → m .words ≤ room → Accepted block room
+  pub only : (block : List ℕ) (room : ℕ) → Below 256 block → Accepted block room → (m : Meets block) × (m .words ≤ room)
+  pub small : (block : List ℕ) (room : ℕ) → Below 256 block → (m : Meets block) → room < m .words → answerOf block room .number ≡ 9
+
+-- The answer is the common header and the count of words, and which copies passed.
+pub record AnswersTruly : Type 0 where
+  pub header : (block : List ℕ) (room : ℕ) → Below 256 block → (m : Meets block) → m .words ≤ room → answerOf block room .header ≡ take headerLength (m .copy)
+  pub count : (block : List ℕ) (room : ℕ) → Below 256 block → (m : Meets block) → m .words ≤ room → answerOf block room .words ≡ m .words
+  pub first : (block : List ℕ) (room : ℕ) → Below 256 block → Accepted block room → (answerOf block room .first ≡ true) ↔ Passes generator (copyAt 0 block)
+  pub second : (block : List ℕ) (room : ℕ) → Below 256 block → Accepted block room → (answerOf block room .second ≡ true) ↔ Passes generator (copyAt 1 block)
+  pub third : (block : List ℕ) (room : ℕ) → Below 256 block → Accepted block room → (answerOf block room .third ≡ true) ↔ Passes generator (copyAt 2 block)
+
+-- The words in the room are those cut from the field's bits, and nothing behind them has changed; where words were sent, they are these.
+pub record GivesWords : Type 0 where
+  pub cut : (block room : List ℕ) → Below 256 block → (m : Meets block) → m .words ≤ length room
+      → roomAfter block room ≡ words (m .size) (m .words) (sent (informationField (fieldBytes (m .number) (m .words)) block)) ++ drop (m .words) room
+  pub sent-ones : (block room ws fill : List ℕ) → Below 256 block → (m : Meets block) → m .words ≤ length room
+      → length ws ≡ m .words → Below (2 ^ m .size) ws → sent (informationField (fieldBytes (m .number) (m .words)) block) ≡ spell (m .size) ws ++ fill
+      → roomAfter block room ≡ ws ++ drop (m .words) room
+
+-- ---- demand 3
+
+-- a block: three copies, and the field with its check word behind them
+abbrev pub blockOf : (a b c rest : List ℕ) → List ℕ
+blockOf a b c rest = a ++ (b ++ (c ++ rest))
+
+-- x, y and z are the copy a three times, with at most two of them altered, each inside one run of 16 bits in the order sent
+pub record TwoAltered (a x y z : List ℕ) : Type 0 where
+  pub long : length a ≡ copyLength
+  pub first : Altered 16 a x
+  pub second : Altered 16 a y
+  pub third : Altered 16 a z
+  pub whole : (x ≡ a) ⊎ ((y ≡ a) ⊎ (z ≡ a))
+
+-- the same number, header and count, and the same room afterwards
+pub record Alike (one other room : List ℕ) : Type 0 where
+  pub number : answerOf one (length room) .number ≡ answerOf other (length room) .number
+  pub header : answerOf one (length room) .header ≡ answerOf other (length room) .header
+  pub count : answerOf one (length room) .words ≡ answerOf other (length room) .words
+  pub left : roomAfter one room ≡ roomAfter other room
+
+-- A block was sent with three equal copies, and is accepted as sent. With at most two copies altered, each inside one run of 16 bits, it is
+-- accepted with the same header and words. With the field and its check word altered besides, at least one bit, all inside one run of
+-- 16 bits, it is refusal 10, and the room is as it was.
+pub record FindsAltered : Type 0 where
+  pub copies : (a x y z rest room : List ℕ) → Below 256 a → Below 256 rest → Accepted (blockOf a a a rest) (length room) → TwoAltered a x y z
+      → Alike (blockOf x y z rest) (blockOf a a a rest) room
+  pub field : (a x y z rest other room : List ℕ) → Below 256 a → Below 256 rest → Accepted (blockOf a a a rest) (length room) → TwoAltered a x y z
+      → Altered 16 rest other → (rest ≡ other → ⊥)
+      → (answerOf (blockOf x y z other) (length room) ≡ refusedAnswer 10) × (roomAfter (blockOf x y z other) room ≡ room)

@@ -1,0 +1,142 @@
+// Lists a recording: the file that the argument names, or standard input. A line a field as it comes, with memory for one field and
+// its words; what a field is, and the numbers of its line, are the library's.
+ghost use Prim.Native.Nat.{_+_, _<_, _≤_};
+ghost use lib.ListN.{length};
+use libc::STDIN_FILENO;
+use libc::STDOUT_FILENO;
+use recording::Found;
+use recording::Line;
+
+// The longest field with its front, and the most words of a block.
+const FIELD_BYTES: usize = 65538;
+
+const MOST_WORDS: usize = 21008;
+
+fn write(text: &[u8]) {
+    io::write_all(STDOUT_FILENO, text);
+}
+
+fn write_number(n: u64) {
+    io::print_decimal(STDOUT_FILENO, n);
+}
+
+// Three dashes stand for the numbers of a field that is refused.
+fn write_line(seq: u64, line: Line) {
+    write_number(seq);
+    if line.answer == ground::ACCEPTED {
+        write(b" ");
+        write_number(line.block as u64);
+        write(b" ");
+        write_number(line.version as u64);
+        write(b" ");
+        write_number(line.words as u64);
+        write(b" ");
+    } else {
+        write(b" - - - ");
+    }
+    write_number(line.answer as u64);
+    write(b"\n");
+}
+
+fn wide(b: u8) -> usize
+    ensures { λ r. ⌜ r < 256 ⌝ }
+{
+    b as usize
+}
+
+// Reads a field's front, and then as many bytes as it says; the bytes that came.
+fn read_field(fd: i32, field: &mut [u8]) -> usize
+    requires { ⌜ 65538 ≤ length (now field) ⌝ }
+    ensures { λ r. ⌜ r ≤ length (now (field .exit)) ⌝ }
+{
+    let front = recording::FRONT;
+    let got = io::read_full(fd, &mut field[..front]);
+    if got < front {
+        return got;
+    }
+    let end = front + wide(field[1]) * 256 + wide(field[2]);
+    let more = io::read_full(fd, &mut field[front..end]);
+    front + more
+}
+
+// Whether reading failed, where it stopped short: at its end a file gives no byte more.
+fn has_failed(fd: i32) -> bool {
+    let mut one = [0u8; 1];
+    libc::read(fd, &mut one) < 0
+}
+
+// One field: lists it and answers true, or says how the recording ends.
+fn list_field(fd: i32, name: &[u8], seen: u64, field: &mut [u8], room: &mut [u16]) -> bool
+    requires { ⌜ seen < 18446744073709551615 ⌝ }
+    requires { ⌜ 65538 ≤ length (now field) ⌝ }
+{
+    let got = read_field(fd, field);
+    match recording::next_field(&field[..got], 0) {
+        Found::Whole(tag, start, length) => {
+            let end = start + length;
+            let line = recording::line_of(tag, &field[start..end], room);
+            write_line(seen + 1, line);
+            true
+        }
+        Found::Cut => {
+            finish(fd, name, b"cut ", seen);
+            false
+        }
+        Found::End => {
+            finish(fd, name, b"end ", seen);
+            false
+        }
+    }
+}
+
+// The last line, with the number of complete fields; or, where reading failed, a message instead.
+fn finish(fd: i32, name: &[u8], how: &[u8], fields: u64) {
+    if has_failed(fd) {
+        os::fail(name);
+        return;
+    }
+    write(how);
+    write_number(fields);
+    write(b"\n");
+}
+
+// A proved loop has to end, and nothing says that a recording does: so it counts its fields, to a number that none has.
+fn list_fields(fd: i32, name: &[u8], field: &mut [u8], room: &mut [u16])
+    requires { ⌜ 65538 ≤ length (now field) ⌝ }
+{
+    let mut seq: u64 = 0;
+    while seq < u64::MAX && list_field(fd, name, seq, field, room) {
+        seq += 1;
+    }
+}
+
+fn list(fd: i32, name: &[u8]) {
+    let mut field = [0u8; FIELD_BYTES];
+    let mut room = [0u16; MOST_WORDS];
+    write(b"seq block version words answer\n");
+    list_fields(fd, name, &mut field, &mut room);
+}
+
+fn list_file(name: &[u8]) {
+    let fd = os::open_read(name);
+    if fd < 0 {
+        os::fail(name);
+        return;
+    }
+    list(fd, name);
+    libc::close(fd);
+}
+
+fn main() {
+    if os::arg_count() < 2 {
+        list(STDIN_FILENO, b"standard input");
+        return;
+    }
+    let mut name = io::buffer();
+    let length = os::arg(1, &mut name);
+    if os::errno() != 0 {
+        os::fail(b"the name of the recording");
+        return;
+    }
+    list_file(&name[..length]);
+}

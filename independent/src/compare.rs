@@ -1,0 +1,461 @@
+//! One case run on a library: its answer and every lent buffer afterwards.
+
+use std::collections::BTreeMap;
+use std::fmt::Write;
+
+use crate::inputs::{self, Dice};
+use crate::library::{Library, Model, ReadAnswer};
+use crate::rows;
+use crate::tags::Tag;
+use crate::watch::{Verdict, Watch};
+
+/// Where a sequence of offers begins.
+#[derive(Clone, Copy, Debug)]
+pub enum Start {
+    Begun(u32),
+    Lent(Watch),
+}
+
+/// `shift` moves the buffers, so that no alignment is relied on.
+#[derive(Clone, Debug)]
+pub enum Case {
+    CheckWord { bytes: Vec<u8> },
+    Read { block: Vec<u8>, room: Vec<u16>, shift: usize },
+    Write { header: Vec<u8>, words: Vec<u16>, dest: Vec<u8>, shift: usize },
+    Record { header: Vec<u8>, words: Vec<u16>, k: usize },
+    Place { block: u8, version: u8, record: u8 },
+    ReadTag { bytes: Vec<u8> },
+    WriteTag { tag: Tag },
+    Elapsed { first: Vec<u8>, second: Vec<u8> },
+    Begin { limit: u32 },
+    Offers { start: Start, offers: Vec<(u8, Vec<u8>)> },
+    Imager { words: Vec<u16> },
+    Sounder { words: Vec<u16> },
+    List { recording: Vec<u8> },
+}
+
+#[derive(Clone, Debug, PartialEq, Eq)]
+pub enum Answer {
+    Word(u16),
+    Read(ReadAnswer),
+    Written(u8, usize),
+    Part(u8, usize, usize),
+    Place(u8, u8, u8),
+    Tag(u8, Tag),
+    TagBytes(u8, [u8; 8]),
+    Elapsed(u8, i64),
+    Begun(u8, Watch),
+    Offers(u8, Vec<(Verdict, Watch)>),
+    Imager(u8, [bool; 4]),
+    Sounder(u8, [bool; 2]),
+    Listing(String),
+}
+
+/// Buffers afterwards, the room around them included.
+#[derive(Debug, PartialEq, Eq)]
+pub struct Outcome {
+    pub answer: Answer,
+    pub bytes: Vec<(&'static str, Lent<u8>)>,
+    pub words: Vec<(&'static str, Lent<u16>)>,
+}
+
+const AROUND: usize = 24;
+
+/// A buffer with room before and behind it that nobody may touch.
+#[derive(Debug, PartialEq, Eq)]
+pub struct Lent<T> {
+    space: Vec<T>,
+    front: usize,
+    length: usize,
+}
+
+impl<T: Copy> Lent<T> {
+    fn new(content: &[T], shift: usize, guard: T) -> Lent<T> {
+        let front = AROUND + shift;
+        let mut space = vec![guard; front + content.len() + AROUND];
+        space[front..front + content.len()].copy_from_slice(content);
+        Lent { space, front, length: content.len() }
+    }
+
+    fn get(&self) -> &[T] {
+        &self.space[self.front..self.front + self.length]
+    }
+
+    fn get_mut(&mut self) -> &mut [T] {
+        &mut self.space[self.front..self.front + self.length]
+    }
+}
+
+fn lend_bytes(content: &[u8], shift: usize) -> Lent<u8> {
+    Lent::new(content, shift, 0xA5)
+}
+
+fn lend_words(content: &[u16], shift: usize) -> Lent<u16> {
+    Lent::new(content, shift, 0xA5C3)
+}
+
+pub fn run(library: &dyn Library, case: &Case) -> Outcome {
+    let mut bytes = Vec::new();
+    let mut words = Vec::new();
+    let answer = match case {
+        Case::CheckWord { bytes: lent } => {
+            let lent = lend_bytes(lent, 0);
+            let answer = library.check_word(lent.get());
+            bytes.push(("bytes", lent));
+            Answer::Word(answer)
+        }
+        Case::Read { block, room, shift } => {
+            let block = lend_bytes(block, *shift);
+            let mut room = lend_words(room, *shift);
+            let answer = library.read(block.get(), room.get_mut());
+            bytes.push(("block", block));
+            words.push(("room", room));
+            Answer::Read(answer)
+        }
+        Case::Write { header, words: lent, dest, shift } => {
+            let header = lend_bytes(header, *shift);
+            let lent = lend_words(lent, *shift);
+            let mut dest = lend_bytes(dest, *shift);
+            let (number, written) = library.write(header.get(), lent.get(), dest.get_mut());
+            bytes.push(("header", header));
+            bytes.push(("destination", dest));
+            words.push(("words", lent));
+            Answer::Written(number, written)
+        }
+        Case::Record { header, words: lent, k } => {
+            let header = lend_bytes(header, 0);
+            let lent = lend_words(lent, 0);
+            let (number, start, length) = library.record(header.get(), lent.get(), *k);
+            bytes.push(("header", header));
+            words.push(("words", lent));
+            Answer::Part(number, start, length)
+        }
+        Case::Place { block, version, record } => {
+            let (number, channel, detector) = library.place(*block, *version, *record);
+            Answer::Place(number, channel, detector)
+        }
+        Case::ReadTag { bytes: lent } => {
+            let lent = lend_bytes(lent, 0);
+            let (number, tag) = library.read_tag(lent.get());
+            bytes.push(("tag", lent));
+            Answer::Tag(number, tag)
+        }
+        Case::WriteTag { tag } => {
+            let (number, written) = library.write_tag(tag);
+            Answer::TagBytes(number, written)
+        }
+        Case::Elapsed { first, second } => {
+            let first = lend_bytes(first, 0);
+            let second = lend_bytes(second, 0);
+            let (number, time) = library.elapsed(first.get(), second.get());
+            bytes.push(("first", first));
+            bytes.push(("second", second));
+            Answer::Elapsed(number, time)
+        }
+        Case::Begin { limit } => {
+            let (number, watch) = library.begin(*limit);
+            Answer::Begun(number, watch)
+        }
+        Case::Offers { start, offers } => {
+            let (number, mut watch) = match start {
+                Start::Begun(limit) => library.begin(*limit),
+                Start::Lent(watch) => (0, *watch),
+            };
+            let mut verdicts = Vec::new();
+            for (block, tag) in offers {
+                let tag = lend_bytes(tag, 0);
+                let verdict = library.offer(&mut watch, *block, tag.get());
+                verdicts.push((verdict, watch));
+                bytes.push(("tag", tag));
+            }
+            Answer::Offers(number, verdicts)
+        }
+        Case::Imager { words: lent } => {
+            let lent = lend_words(lent, 0);
+            let (number, right) = library.imager(lent.get());
+            words.push(("words", lent));
+            Answer::Imager(number, right)
+        }
+        Case::Sounder { words: lent } => {
+            let lent = lend_words(lent, 0);
+            let (number, right) = library.sounder(lent.get());
+            words.push(("words", lent));
+            Answer::Sounder(number, right)
+        }
+        Case::List { recording } => {
+            let lent = lend_bytes(recording, 0);
+            let listing = library.list(lent.get());
+            bytes.push(("recording", lent));
+            Answer::Listing(listing)
+        }
+    };
+    Outcome { answer, bytes, words }
+}
+
+fn hex(bytes: &[u8]) -> String {
+    bytes.iter().map(|byte| format!("{byte:02X}")).collect()
+}
+
+fn hex_words(words: &[u16]) -> String {
+    let words: Vec<String> = words.iter().map(|word| format!("{word:04X}")).collect();
+    words.join(" ")
+}
+
+impl Case {
+    pub fn kind(&self) -> &'static str {
+        match self {
+            Case::CheckWord { .. } => "check word",
+            Case::Read { .. } => "read",
+            Case::Write { .. } => "write",
+            Case::Record { .. } => "record",
+            Case::Place { .. } => "place",
+            Case::ReadTag { .. } => "read tag",
+            Case::WriteTag { .. } => "write tag",
+            Case::Elapsed { .. } => "elapsed",
+            Case::Begin { .. } => "begin",
+            Case::Offers { .. } => "offer",
+            Case::Imager { .. } => "imager",
+            Case::Sounder { .. } => "sounder",
+            Case::List { .. } => "list",
+        }
+    }
+
+    /// The whole input, buffers in hex.
+    pub fn input(&self) -> String {
+        let mut text = String::new();
+        let mut bytes = |name: &str, content: &[u8]| {
+            writeln!(text, "  {name}, {} bytes: {}", content.len(), hex(content)).unwrap();
+        };
+        match self {
+            Case::CheckWord { bytes: content } => bytes("bytes", content),
+            Case::Read { block, room, shift } => {
+                bytes("block", block);
+                writeln!(text, "  room, {} words: {}", room.len(), hex_words(room)).unwrap();
+                writeln!(text, "  shift: {shift}").unwrap();
+            }
+            Case::Write { header, words, dest, shift } => {
+                bytes("header", header);
+                bytes("destination", dest);
+                writeln!(text, "  words, {}: {}", words.len(), hex_words(words)).unwrap();
+                writeln!(text, "  shift: {shift}").unwrap();
+            }
+            Case::Record { header, words, k } => {
+                bytes("header", header);
+                writeln!(text, "  words: {}, record {k}", words.len()).unwrap();
+            }
+            Case::ReadTag { bytes: content } => bytes("tag", content),
+            Case::Elapsed { first, second } => {
+                bytes("first", first);
+                bytes("second", second);
+            }
+            Case::Offers { start, offers } => {
+                for (block, tag) in offers {
+                    bytes(&format!("offer of block {block}, tag"), tag);
+                }
+                writeln!(text, "  start: {start:?}").unwrap();
+            }
+            Case::Imager { words } | Case::Sounder { words } => {
+                writeln!(text, "  words, {}: {}", words.len(), hex_words(words)).unwrap();
+            }
+            Case::List { recording } => bytes("recording", recording),
+            Case::Place { .. } | Case::WriteTag { .. } | Case::Begin { .. } => {
+                writeln!(text, "  {self:?}").unwrap();
+            }
+        }
+        text
+    }
+}
+
+/// Names under which answers are counted.
+fn labels(answer: &Answer) -> Vec<String> {
+    match answer {
+        Answer::Word(_) => vec!["word".into()],
+        Answer::Read(read) => vec![read.number.to_string()],
+        Answer::Offers(_, verdicts) => verdicts.iter().map(|(verdict, _)| format!("{verdict:?}")).collect(),
+        Answer::Listing(text) => {
+            let lines: Vec<&str> = text.lines().skip(1).collect();
+            lines
+                .iter()
+                .map(
+                    |line| {
+                        if line.starts_with(['e', 'c']) {
+                            &line[..3]
+                        } else {
+                            line.rsplit(' ').next().unwrap()
+                        }
+                    },
+                )
+                .map(String::from)
+                .collect()
+        }
+        Answer::Written(number, ..)
+        | Answer::Part(number, ..)
+        | Answer::Place(number, ..)
+        | Answer::Tag(number, _)
+        | Answer::TagBytes(number, _)
+        | Answer::Elapsed(number, _)
+        | Answer::Begun(number, _)
+        | Answer::Imager(number, _)
+        | Answer::Sounder(number, _) => vec![number.to_string()],
+    }
+}
+
+fn first_difference<T: PartialEq + std::fmt::UpperHex>(
+    name: &str,
+    ours: &Lent<T>,
+    theirs: &Lent<T>,
+) -> String {
+    for (place, (our, their)) in ours.space.iter().zip(&theirs.space).enumerate() {
+        if our != their {
+            let at = place as i64 - ours.front as i64;
+            return format!(
+                "  {name} afterwards, at {at} of {}: model {our:X}, library {their:X}\n",
+                ours.length
+            );
+        }
+    }
+    String::new()
+}
+
+/// None where they agree, else the input and both answers.
+pub fn difference(library: &dyn Library, case: &Case, ours: &Outcome) -> Option<String> {
+    let theirs = run(library, case);
+    if *ours == theirs {
+        return None;
+    }
+    let mut text = format!("difference in {}\n{}", case.kind(), case.input());
+    if let (Answer::Offers(a, ours), Answer::Offers(b, theirs)) = (&ours.answer, &theirs.answer) {
+        let place = ours.iter().zip(theirs).position(|(our, their)| our != their);
+        writeln!(text, "  begun: model {a}, library {b}").unwrap();
+        if let Some(place) = place {
+            writeln!(text, "  first at offer {}", place + 1).unwrap();
+            writeln!(text, "  model:   {:?}\n  library: {:?}", ours[place], theirs[place]).unwrap();
+        }
+    } else {
+        writeln!(text, "  model:   {:?}\n  library: {:?}", ours.answer, theirs.answer).unwrap();
+    }
+    for ((name, ours), (_, theirs)) in ours.bytes.iter().zip(&theirs.bytes) {
+        text += &first_difference(name, ours, theirs);
+    }
+    for ((name, ours), (_, theirs)) in ours.words.iter().zip(&theirs.words) {
+        text += &first_difference(name, ours, theirs);
+    }
+    Some(text)
+}
+
+/// How often each answer of each kind was met.
+#[derive(Default)]
+pub struct Tally(pub BTreeMap<(&'static str, String), u64>);
+
+impl Tally {
+    fn count(&mut self, kind: &'static str, answer: &Answer) {
+        for label in labels(answer) {
+            *self.0.entry((kind, label)).or_default() += 1;
+        }
+    }
+
+    pub fn met(&self, kind: &'static str, label: &str) -> u64 {
+        self.0.get(&(kind, label.to_string())).copied().unwrap_or(0)
+    }
+
+    /// One line for each kind.
+    pub fn lines(&self) -> String {
+        let mut kinds: BTreeMap<&str, Vec<(u64, String)>> = BTreeMap::new();
+        for ((kind, label), count) in &self.0 {
+            let order = label.parse().unwrap_or(99);
+            kinds.entry(kind).or_default().push((order, format!("{label}: {count}")));
+        }
+        let mut text = String::new();
+        for (kind, mut answers) in kinds {
+            answers.sort();
+            let answers: Vec<String> = answers.into_iter().map(|(_, answer)| answer).collect();
+            writeln!(text, "{kind:11} {}", answers.join(", ")).unwrap();
+        }
+        text
+    }
+}
+
+pub fn case_of(seed: u64, number: u64) -> Case {
+    inputs::case(&mut Dice::for_case(seed, number))
+}
+
+/// Cases `first` up to `end` of a seed; stops at the first difference.
+pub fn compare(
+    library: &dyn Library,
+    seed: u64,
+    first: u64,
+    end: u64,
+    tally: &mut Tally,
+) -> Result<(), String> {
+    for number in first..end {
+        let case = case_of(seed, number);
+        let ours = run(&Model, &case);
+        tally.count(case.kind(), &ours.answer);
+        if let Some(text) = difference(library, &case, &ours) {
+            return Err(format!("seed {seed}, case {number}: {text}"));
+        }
+    }
+    Ok(())
+}
+
+/// Every block, version and record that three bytes can name.
+pub fn compare_placements(library: &dyn Library) -> Result<u64, String> {
+    let mut compared = 0;
+    for block in 0..=255 {
+        for version in 0..=255 {
+            for record in 0..=255 {
+                let ours = Model.place(block, version, record);
+                let theirs = library.place(block, version, record);
+                if ours != theirs {
+                    return Err(format!(
+                        "difference in place\n  block {block}, version {version}, record {record}\n  \
+                         model:   {ours:?}\n  library: {theirs:?}\n"
+                    ));
+                }
+                compared += 1;
+            }
+        }
+    }
+    Ok(compared)
+}
+
+/// Refusals 4 to 7 over headers: every id with every size or version, and
+/// every count for the ids and sizes that are known.
+pub fn compare_headers(library: &dyn Library) -> Result<u64, String> {
+    let words = vec![0; rows::LARGEST_C];
+    let mut compared = 0;
+    let mut judge = |id: u8, size: u8, version: u8, count: u16| {
+        let mut header = [0; 28];
+        header[0] = id;
+        header[1] = size;
+        header[2..4].copy_from_slice(&count.to_be_bytes());
+        header[7] = version;
+        let ours = (Model.record(&header, &words, 1), Model.write(&header, &[], &mut []));
+        let theirs = (library.record(&header, &words, 1), library.write(&header, &[], &mut []));
+        compared += 1;
+        if ours == theirs {
+            return Ok(());
+        }
+        Err(format!(
+            "difference in a header: {}\n  record 1 and writing no words\n  model:   {ours:?}\n  \
+             library: {theirs:?}\n",
+            hex(&header)
+        ))
+    };
+    for id in 0..=255 {
+        for other in 0..=255 {
+            for version in 0..=4 {
+                judge(id, other, version, 70)?;
+            }
+            judge(id, 10, other, 70)?;
+        }
+    }
+    for id in (1..=11).chain([240]) {
+        for size in [6, 8, 10] {
+            for count in 0..=65_535 {
+                judge(id, size, 3, count)?;
+            }
+        }
+    }
+    Ok(compared)
+}

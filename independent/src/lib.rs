@@ -1,0 +1,19 @@
+//! GVAR blocks, time tags and the scan watch, written a second time from the
+//! specification so that a library can be compared with it. Plain code comes
+//! before quick code everywhere here.
+
+pub mod block;
+pub mod check;
+pub mod compare;
+pub mod document;
+pub mod header;
+pub mod inputs;
+pub mod library;
+pub mod parity;
+pub mod placement;
+pub mod recording;
+pub mod rows;
+pub mod tags;
+pub mod watch;
+pub mod words;
+pub mod wrong;

@@ -1,0 +1,55 @@
+//! compare SEED COUNT [FAULT]: the model against a library. Without a fault
+//! the library is the model itself; with one (a number from 1) it is wrong on
+//! purpose. Exit status 1 on a difference, 2 on bad arguments.
+
+use std::process::ExitCode;
+
+use independent::compare::{compare, compare_headers, compare_placements, Tally};
+use independent::document;
+use independent::library::{Library, Model};
+use independent::wrong::{Wrong, FAULTS};
+
+fn usage() -> ExitCode {
+    eprintln!("usage: compare SEED COUNT [FAULT from 1 to {}]", FAULTS.len());
+    ExitCode::from(2)
+}
+
+fn main() -> ExitCode {
+    let numbers: Option<Vec<u64>> = std::env::args().skip(1).map(|text| text.parse().ok()).collect();
+    let (seed, count, library): (u64, u64, Box<dyn Library>) = match numbers.as_deref() {
+        Some([seed, count]) => (*seed, *count, Box::new(Model)),
+        Some([seed, count, fault]) if (1..=FAULTS.len() as u64).contains(fault) => {
+            let fault = FAULTS[*fault as usize - 1];
+            println!("library on trial: {fault}");
+            (*seed, *count, Box::new(Wrong(fault)))
+        }
+        _ => return usage(),
+    };
+
+    let found = document::all(&*library);
+    for wrong in &found.wrong {
+        println!("{wrong}");
+    }
+    println!("printed answers: {} compared, {} wrong", found.run, found.wrong.len());
+
+    let mut tally = Tally::default();
+    let outcome = compare(&*library, seed, 0, count, &mut tally);
+    print!("{}", tally.lines());
+    let outcome = outcome.and_then(|()| {
+        let placements = compare_placements(&*library)?;
+        let headers = compare_headers(&*library)?;
+        Ok(format!("{count} cases of seed {seed}, {placements} placements and {headers} headers agree"))
+    });
+    match outcome {
+        Ok(text) => println!("{text}"),
+        Err(text) => {
+            print!("{text}");
+            return ExitCode::FAILURE;
+        }
+    }
+    if found.wrong.is_empty() {
+        ExitCode::SUCCESS
+    } else {
+        ExitCode::FAILURE
+    }
+}

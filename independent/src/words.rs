@@ -1,0 +1,58 @@
+//! Words of any size in a field, bit by bit, most significant first.
+
+/// Bit number `place` of the field, from 0.
+pub fn bit(field: &[u8], place: usize) -> bool {
+    field[place / 8] & (0x80 >> (place % 8)) != 0
+}
+
+pub fn unpack(field: &[u8], size: usize, count: usize) -> Vec<u16> {
+    let mut words = Vec::with_capacity(count);
+    for index in 0..count {
+        let mut word = 0;
+        for place in 0..size {
+            word = word * 2 + bit(field, index * size + place) as u16;
+        }
+        words.push(word);
+    }
+    words
+}
+
+/// Every bit behind the last word is fill and zero.
+pub fn pack(words: &[u16], size: usize, field_bytes: usize) -> Vec<u8> {
+    let mut field = vec![0; field_bytes];
+    for (index, &word) in words.iter().enumerate() {
+        for place in 0..size {
+            if (word >> (size - 1 - place)) & 1 == 1 {
+                let at = index * size + place;
+                field[at / 8] |= 0x80 >> (at % 8);
+            }
+        }
+    }
+    field
+}
+
+pub fn fill_is_zero(field: &[u8], data_bits: usize) -> bool {
+    (data_bits..8 * field.len()).all(|place| !bit(field, place))
+}
+
+#[cfg(test)]
+mod tests {
+    use super::*;
+
+    #[test]
+    fn ten_and_six_bits() {
+        assert_eq!(unpack(&[0x00, 0x40, 0x20, 0x0C, 0x04], 10, 4), [1, 2, 3, 4]);
+        assert_eq!(unpack(&[0x04, 0x20, 0xC4], 6, 4), [1, 2, 3, 4]);
+        assert_eq!(pack(&[1, 2, 3, 4], 10, 5), [0x00, 0x40, 0x20, 0x0C, 0x04]);
+        assert_eq!(pack(&[1, 2, 3, 4], 6, 3), [0x04, 0x20, 0xC4]);
+        assert_eq!(pack(&[1, 255], 8, 3), [1, 255, 0]);
+    }
+
+    #[test]
+    fn fill() {
+        assert!(fill_is_zero(&[0xFF, 0xC0], 10));
+        assert!(!fill_is_zero(&[0xFF, 0xE0], 10));
+        assert!(!fill_is_zero(&[0xFF, 0xC1], 10));
+        assert!(fill_is_zero(&[0xFF], 8));
+    }
+}

@@ -1,0 +1,347 @@
+//! Libraries that are wrong on purpose, one fault each: the comparison must
+//! find every one of them.
+
+use crate::check::check_bytes;
+use crate::header::{meaning, passing, sealed, HEADER};
+use crate::library::{Library, Model, ReadAnswer};
+use crate::tags::{self, Tag};
+use crate::watch::{Verdict, Watch};
+use crate::{rows, words};
+
+pub const FAULTS: [&str; 50] = [
+    "takes copy 1 unread",
+    "votes without the check",
+    "unpacks ten-bit words low bits first",
+    "counts fill as words",
+    "ends block 2's field at a byte",
+    "clips a backward wait to zero",
+    "runs the fourth Imager section up to word 7905",
+    "refuses every block",
+    "returns one fixed block",
+    "writes no words",
+    "watch only nods after its first offer",
+    "writes one word behind the words",
+    "changes the room on a refusal",
+    "gives the header on refusal 10",
+    "tests 10 before 9",
+    "tests 11 before 10",
+    "overlooks copy 3 in refusal 3",
+    "marks every copy as passed",
+    "tests 14 before 9 in the writer",
+    "clears the destination behind the block",
+    "counts records from 0",
+    "tests 9 before 13 for a record",
+    "places version 1 like version 2",
+    "takes every fourth year as leap",
+    "reads the flywheel mark as part of the day",
+    "takes day 366 in any year",
+    "gives elapsed time without sign",
+    "lets the flywheel mark into elapsed time",
+    "calls a wait of exactly the limit late",
+    "opens no new scan on a closing block 0",
+    "ignores block 11 while open",
+    "asks for the block before the clock",
+    "clears an idle record on a stray",
+    "tests the tag of an idle record",
+    "closes on a refused offer",
+    "tests the limit of a lent record last",
+    "masks words above 255",
+    "tests 14 before 8 for parity",
+    "counts the cut field",
+    "lists other tags as 1",
+    "lists the count of the header",
+    "begins with any limit",
+    "leaves the check word uncomplemented",
+    "takes n up to 5,237",
+    "takes n from 0",
+    "crosses the counts of block 11",
+    "takes id 0 as block 0",
+    "tests only the last byte of fill",
+    "keeps the opening tag while the scan goes on",
+    "loses the flywheel mark of a kept tag",
+];
+
+pub struct Wrong(pub &'static str);
+
+impl Wrong {
+    fn is(&self, fault: &str) -> bool {
+        self.0 == fault
+    }
+}
+
+fn copy(block: &[u8], number: usize) -> [u8; HEADER] {
+    block[30 * number..30 * number + HEADER].try_into().unwrap()
+}
+
+fn with_header(block: &[u8], header: &[u8; HEADER]) -> Vec<u8> {
+    let mut block = block.to_vec();
+    block[..90].copy_from_slice(&[sealed(header); 3].concat());
+    block
+}
+
+fn with_check(block: &[u8]) -> Vec<u8> {
+    let mut block = block.to_vec();
+    if block.len() >= 92 {
+        let end = block.len() - 2;
+        let check = check_bytes(&block[90..end]);
+        block[end..].copy_from_slice(&check);
+    }
+    block
+}
+
+impl Library for Wrong {
+    fn check_word(&self, bytes: &[u8]) -> u16 {
+        let word = Model.check_word(bytes);
+        if self.is("leaves the check word uncomplemented") {
+            return !word;
+        }
+        word
+    }
+
+    fn read(&self, block: &[u8], room: &mut [u16]) -> ReadAnswer {
+        let whole = block.len() >= 90;
+        if self.is("takes copy 1 unread") && whole {
+            return Model.read(&with_header(block, &copy(block, 0)), room);
+        }
+        if self.is("votes without the check") && whole {
+            let [a, b, c] = [0, 1, 2].map(|number| copy(block, number));
+            let mut voted = [0; HEADER];
+            for (index, byte) in voted.iter_mut().enumerate() {
+                *byte = a[index] & b[index] | a[index] & c[index] | b[index] & c[index];
+            }
+            return Model.read(&with_header(block, &voted), room);
+        }
+        if self.is("returns one fixed block") {
+            room.iter_mut().take(20).for_each(|word| *word = 7);
+            let header = crate::document::header(3, 10, 2, 20);
+            return ReadAnswer { number: 0, header, copies: [true; 3], words: 20 };
+        }
+        if self.is("refuses every block") {
+            return ReadAnswer::refused(10);
+        }
+        let before = room.to_vec();
+        let mut answer = Model.read(block, room);
+        let field = || &block[90..block.len() - 2];
+        match (self.0, answer.number) {
+            ("unpacks ten-bit words low bits first", 0) if answer.header[1] == 10 => {
+                for word in &mut room[..answer.words] {
+                    *word = word.reverse_bits() >> 6;
+                }
+            }
+            ("counts fill as words", 0) => answer.words = 8 * field().len() / answer.header[1] as usize,
+            ("writes no words", 0) => room.copy_from_slice(&before),
+            ("writes one word behind the words", 0) if answer.words < room.len() => room[answer.words] = 0,
+            ("changes the room on a refusal", 11) => room.fill(0),
+            ("gives the header on refusal 10", 10) => answer.header = copy(block, 0),
+            ("tests 10 before 9", 9) => {
+                if Model.read(block, &mut vec![0; rows::LARGEST_C]).number == 10 {
+                    answer.number = 10;
+                }
+            }
+            ("tests 11 before 10", 10) => {
+                if Model.read(&with_check(block), &mut vec![0; rows::LARGEST_C]).number == 11 {
+                    answer.number = 11;
+                }
+            }
+            ("overlooks copy 3 in refusal 3", 3) if copy(block, 0) == copy(block, 1) => {
+                answer = Model.read(&with_header(block, &copy(block, 0)), room);
+            }
+            ("marks every copy as passed", 0) => answer.copies = [true; 3],
+            ("takes n up to 5,237", 7) if block[..4] == [1, 10, 0x52, 0x16] => answer.number = 8,
+            ("takes n from 0", 7) if block[..4] == [1, 10, 0, 66] => answer.number = 8,
+            ("crosses the counts of block 11", 7) if block[..4] == [11, 6, 0x1F, 0x6A] => answer.number = 8,
+            ("takes id 0 as block 0", 4) if block[0] == 0 => answer.number = 8,
+            ("tests only the last byte of fill", 11) if field().last() == Some(&0) => {
+                let first = passing(block).iter().position(|&passes| passes).unwrap();
+                let meaning = meaning(&copy(block, first)).unwrap();
+                let decoded = words::unpack(field(), meaning.size, meaning.c);
+                let packed = words::pack(&decoded, meaning.size, field().len());
+                let cleared = [&block[..90], &packed, &[0, 0]].concat();
+                answer = Model.read(&with_check(&cleared), room);
+            }
+            _ => {}
+        }
+        answer
+    }
+
+    fn write(&self, header: &[u8], words: &[u16], dest: &mut [u8]) -> (u8, usize) {
+        let (number, written) = Model.write(header, words, dest);
+        let rounded = number == 0 && written > 2_772 && (10 * words.len()).div_ceil(8) % 2 == 1;
+        if self.is("ends block 2's field at a byte") && rounded && header[0] == 2 {
+            dest.copy_within(written - 2..written, written - 3);
+            return (0, written - 1);
+        }
+        if self.is("tests 14 before 9 in the writer") && number == 9 && words.iter().any(|&word| word > 1_023)
+        {
+            return (14, 0);
+        }
+        if self.is("clears the destination behind the block") && number == 0 {
+            dest[written..].fill(0);
+        }
+        (number, written)
+    }
+
+    fn record(&self, header: &[u8], words: &[u16], k: usize) -> (u8, usize, usize) {
+        let (number, start, length) = Model.record(header, words, k);
+        if self.is("counts records from 0") && number == 0 {
+            return (0, start + length, length);
+        }
+        if self.is("tests 9 before 13 for a record") && number == 13 && words.len() < 20 {
+            return (9, 0, 0);
+        }
+        (number, start, length)
+    }
+
+    fn place(&self, block: u8, version: u8, record: u8) -> (u8, u8, u8) {
+        if self.is("places version 1 like version 2") && version == 1 {
+            return Model.place(block, 2, record);
+        }
+        Model.place(block, version, record)
+    }
+
+    fn read_tag(&self, bytes: &[u8]) -> (u8, Tag) {
+        let (number, tag) = Model.read_tag(bytes);
+        if self.is("takes every fourth year as leap") && number == 12 && bytes.len() == 8 {
+            let year_and_day = (bytes[0] & 3, bytes[1], bytes[2] & 0x7F, bytes[3] >> 4);
+            if matches!(year_and_day, (1..=3, 0, 0x36, 6)) {
+                return (0, Tag { day: 366, ..tag });
+            }
+        }
+        if self.is("reads the flywheel mark as part of the day") && tag.flywheel {
+            return (12, Tag::default());
+        }
+        if self.is("takes day 366 in any year") && number == 12 && bytes.len() == 8 {
+            let mut other = bytes.to_vec();
+            if (other[2] & 0x7F, other[3] >> 4) == (0x36, 6) {
+                other[3] -= 0x10;
+                let (number, tag) = Model.read_tag(&other);
+                return (number, if number == 0 { Tag { day: 366, ..tag } } else { tag });
+            }
+        }
+        (number, tag)
+    }
+
+    fn write_tag(&self, tag: &Tag) -> (u8, [u8; 8]) {
+        Model.write_tag(tag)
+    }
+
+    fn elapsed(&self, first: &[u8], second: &[u8]) -> (u8, i64) {
+        let (number, time) = Model.elapsed(first, second);
+        if self.is("gives elapsed time without sign") {
+            return (number, time.abs());
+        }
+        if self.is("lets the flywheel mark into elapsed time") && number == 0 && first[2] ^ second[2] >= 0x80
+        {
+            return (0, time + 1);
+        }
+        (number, time)
+    }
+
+    fn begin(&self, limit: u32) -> (u8, Watch) {
+        if self.is("begins with any limit") {
+            return (0, Watch { limit, ..Watch::default() });
+        }
+        Model.begin(limit)
+    }
+
+    fn offer(&self, watch: &mut Watch, block: u8, tag: &[u8]) -> Verdict {
+        let before = *watch;
+        let offered = tags::read_tag(tag);
+        if self.is("watch only nods after its first offer") && watch.open {
+            return Verdict::Kept;
+        }
+        let verdict = Model.offer(watch, block, tag);
+        let refused = matches!(verdict, Verdict::Refused(_));
+        match (self.0, verdict) {
+            ("clips a backward wait to zero", Verdict::ClockBack) => {
+                *watch = before;
+                watch.tag = offered.1;
+                let verdict = Model.offer(watch, block, tag);
+                if verdict == Verdict::Kept {
+                    watch.tag = offered.1;
+                }
+                return verdict;
+            }
+            ("calls a wait of exactly the limit late", _) if before.open && !refused => {
+                if offered.1.time() - before.tag.time() == before.limit as i64 {
+                    return Verdict::Late;
+                }
+            }
+            ("opens no new scan on a closing block 0", _) if before.open && !refused && block == 0 => {
+                *watch = Watch { limit: before.limit, ..Watch::default() };
+            }
+            ("ignores block 11 while open", Verdict::Broken) if block == 11 => {
+                *watch = before;
+                return Verdict::Stray;
+            }
+            ("asks for the block before the clock", Verdict::ClockBack | Verdict::Late) => {
+                if block != before.expected {
+                    return Verdict::Broken;
+                }
+            }
+            ("clears an idle record on a stray", Verdict::Stray) => {
+                *watch = Watch { limit: before.limit, ..Watch::default() };
+            }
+            ("tests the tag of an idle record", _) if !before.open && !refused => {
+                if before.tag != Tag::default() && !before.tag.in_bounds() {
+                    *watch = before;
+                    return Verdict::Refused(12);
+                }
+            }
+            ("closes on a refused offer", Verdict::Refused(4 | 12)) if before.open => {
+                *watch = Watch { limit: before.limit, ..Watch::default() };
+            }
+            ("tests the limit of a lent record last", Verdict::Refused(16)) => {
+                let within = Watch { limit: 0, ..before };
+                if let Verdict::Refused(number) =
+                    Model.offer(&mut { within }, 0, &[0, 0, 0, 0x10, 0, 0, 0, 0])
+                {
+                    return Verdict::Refused(number);
+                }
+            }
+            ("keeps the opening tag while the scan goes on", Verdict::Kept) => watch.tag = before.tag,
+            ("loses the flywheel mark of a kept tag", Verdict::Kept) => watch.tag.flywheel = false,
+            _ => {}
+        }
+        verdict
+    }
+
+    fn imager(&self, words: &[u16]) -> (u8, [bool; 4]) {
+        let (number, mut right) = Model.imager(words);
+        if self.is("runs the fourth Imager section up to word 7905") && number == 0 {
+            let spares = words[7_902..7_905].iter().fold(0, |sum, word| sum ^ word);
+            let mut other = words.to_vec();
+            other[7_905] ^= spares;
+            right[3] = Model.imager(&other).1[3];
+        }
+        if self.is("masks words above 255") && number == 14 {
+            let masked: Vec<u16> = words.iter().map(|word| word & 255).collect();
+            return Model.imager(&masked);
+        }
+        if self.is("tests 14 before 8 for parity") && words.iter().any(|&word| word > 255) {
+            return (14, right);
+        }
+        (number, right)
+    }
+
+    fn sounder(&self, words: &[u16]) -> (u8, [bool; 2]) {
+        Model.sounder(words)
+    }
+
+    fn list(&self, recording: &[u8]) -> String {
+        let listing = Model.list(recording);
+        if self.is("counts the cut field") {
+            if let Some((front, last)) = listing.rsplit_once("cut ") {
+                let fields: usize = last.trim().parse().unwrap();
+                return format!("{front}cut {}\n", fields + 1);
+            }
+        }
+        if self.is("lists other tags as 1") {
+            return listing.replace("- 15\n", "- 1\n");
+        }
+        if self.is("lists the count of the header") {
+            return listing.replace(" 20 0\n", " 22 0\n");
+        }
+        listing
+    }
+}

@@ -1,0 +1,215 @@
+//! The model against the printed answers, and the comparison against libraries
+//! that are wrong on purpose.
+
+use independent::check::check_word;
+use independent::compare::{case_of, compare, compare_placements, run, Answer, Case, Tally};
+use independent::document::{self, Findings};
+use independent::inputs::{self, Dice};
+use independent::library::{Library, Model};
+use independent::rows;
+use independent::watch::Verdict;
+use independent::wrong::{Wrong, FAULTS};
+
+fn none_wrong(part: fn(&dyn Library, &mut Findings)) {
+    let mut found = Findings { run: 0, wrong: Vec::new() };
+    part(&Model, &mut found);
+    assert!(found.wrong.is_empty(), "{}", found.wrong.join("\n"));
+    assert!(found.run > 0);
+}
+
+#[test]
+fn numbered_table() {
+    none_wrong(document::table);
+}
+
+#[test]
+fn further_cases() {
+    none_wrong(document::further_cases);
+}
+
+#[test]
+fn listing() {
+    none_wrong(document::listing);
+}
+
+#[test]
+fn trainee_errors() {
+    none_wrong(document::trainee_errors);
+}
+
+#[test]
+fn every_fault_is_found() {
+    let mut missed = Vec::new();
+    for fault in FAULTS {
+        let library = Wrong(fault);
+        let found = compare(&library, 1, 0, 30_000, &mut Tally::default());
+        if found.is_ok() && compare_placements(&library).is_ok() {
+            missed.push(fault);
+        }
+    }
+    assert!(missed.is_empty(), "not found: {missed:?}");
+}
+
+#[test]
+fn every_answer_is_met() {
+    let mut tally = Tally::default();
+    compare(&Model, 7, 0, 30_000, &mut tally).unwrap();
+    let expected: [(&str, &[&str]); 11] = [
+        ("read", &["0", "1", "2", "3", "4", "5", "6", "7", "8", "9", "10", "11"]),
+        ("write", &["0", "1", "4", "5", "6", "7", "8", "9", "14"]),
+        ("record", &["0", "1", "4", "5", "6", "7", "9", "13"]),
+        ("place", &["0", "4", "5", "13"]),
+        ("read tag", &["0", "12"]),
+        ("write tag", &["0", "12"]),
+        ("elapsed", &["0", "12"]),
+        ("begin", &["0", "16"]),
+        (
+            "offer",
+            &[
+                "Refused(4)",
+                "Refused(12)",
+                "Refused(13)",
+                "Refused(16)",
+                "Stray",
+                "Opened",
+                "Kept",
+                "ClockBack",
+                "Late",
+                "Broken",
+                "Complete",
+            ],
+        ),
+        ("imager", &["0", "8", "14"]),
+        ("list", &["0", "1", "2", "3", "4", "5", "6", "7", "8", "10", "11", "15", "cut", "end"]),
+    ];
+    for (kind, labels) in expected {
+        for label in labels {
+            assert!(tally.met(kind, label) > 20, "{kind} {label}: {}", tally.met(kind, label));
+        }
+    }
+}
+
+#[test]
+fn what_is_written_is_read() {
+    let mut dice = Dice::new(11);
+    for _ in 0..1_000 {
+        let draft = inputs::draft(&mut dice);
+        let mut dest = vec![0xEE; 27_000];
+        let (number, written) = Model.write(&draft.header, &draft.words, &mut dest);
+        assert_eq!(number, 0);
+        assert!(dest[written..].iter().all(|&byte| byte == 0xEE));
+        let mut room = vec![0xEEEE; rows::LARGEST_C + 5];
+        let answer = Model.read(&dest[..written], &mut room);
+        assert_eq!((answer.number, answer.header, answer.copies), (0, draft.header, [true; 3]));
+        assert_eq!(room[..answer.words], draft.words);
+        assert!(room[answer.words..].iter().all(|&word| word == 0xEEEE));
+    }
+}
+
+#[test]
+fn records_joined_are_the_words() {
+    let mut dice = Dice::new(12);
+    for _ in 0..1_000 {
+        let draft = inputs::draft(&mut dice);
+        let mut joined: Vec<u16> = Vec::new();
+        for k in 1..=rows::records(draft.block) {
+            let (number, start, length) = Model.record(&draft.header, &draft.words, k);
+            assert_eq!(number, 0);
+            joined.extend(&draft.words[start..start + length]);
+        }
+        assert!(joined == draft.words || rows::records(draft.block) == 0);
+    }
+}
+
+#[test]
+fn a_refusal_leaves_room_and_answer_empty() {
+    for number in 0..10_000 {
+        match case_of(13, number) {
+            Case::Read { block, room, .. } => {
+                let mut after = room.clone();
+                let answer = Model.read(&block, &mut after);
+                if answer.number != 0 {
+                    assert_eq!((answer.words, answer.header, answer.copies), (0, [0; 28], [false; 3]));
+                    assert_eq!(room, after);
+                }
+            }
+            Case::Write { header, words, dest, .. } => {
+                let mut after = dest.clone();
+                let (number, written) = Model.write(&header, &words, &mut after);
+                if number != 0 {
+                    assert_eq!(written, 0);
+                    assert_eq!(dest, after);
+                }
+            }
+            _ => {}
+        }
+    }
+}
+
+/// A burst of up to sixteen bits in field and check word is always seen.
+#[test]
+fn bursts_are_refused() {
+    let mut dice = Dice::new(14);
+    for _ in 0..300 {
+        let draft = inputs::draft(&mut dice);
+        let mut dest = vec![0; 27_000];
+        let (_, written) = Model.write(&draft.header, &draft.words, &mut dest);
+        let bits = 8 * (written - 90);
+        let length = dice.between(1, 16);
+        let start = dice.below(bits - length + 1);
+        let inner = dice.roll();
+        for place in 0..length {
+            if place == 0 || place == length - 1 || inner >> place & 1 == 1 {
+                let at = 8 * 90 + start + place;
+                dest[at / 8] ^= 0x80 >> (at % 8);
+            }
+        }
+        let answer = Model.read(&dest[..written], &mut vec![0; draft.words.len()]);
+        assert_eq!(answer.number, 10);
+    }
+}
+
+#[test]
+fn a_completed_scan_stays_within_ten_limits() {
+    let mut completed = 0;
+    for number in 0..40_000 {
+        let case = case_of(15, number);
+        let Case::Offers { start: independent::compare::Start::Begun(limit), offers } = &case else {
+            continue;
+        };
+        let Answer::Offers(0, verdicts) = run(&Model, &case).answer else { panic!() };
+        let mut opening = 0;
+        let mut was_open = false;
+        for (index, (verdict, watch)) in verdicts.iter().enumerate() {
+            if !matches!(verdict, Verdict::Refused(_)) && offers[index].0 == 0 && watch.open {
+                opening = index;
+            }
+            if *verdict == Verdict::Complete {
+                let (answer, time) = Model.elapsed(&offers[opening].1, &offers[index].1);
+                assert!(was_open && answer == 0 && time >= 0 && time <= 10 * *limit as i64);
+                completed += 1;
+            }
+            was_open = watch.open;
+        }
+    }
+    assert!(completed > 500);
+}
+
+#[test]
+fn every_field_has_an_even_number_of_bytes() {
+    for block in 0..=11 {
+        for c in 1..=rows::LARGEST_C {
+            assert_eq!(rows::field_bits(block, c) % 16, 0);
+        }
+    }
+}
+
+#[test]
+fn bytes_and_their_check_leave_one_remainder() {
+    let mut dice = Dice::new(16);
+    for length in 0..200 {
+        let mut bytes = dice.bytes(length);
+        bytes.extend(check_word(&bytes).to_be_bytes());
+        assert_eq!(check_word(&bytes), !0x1D0F);
+    }
+}
