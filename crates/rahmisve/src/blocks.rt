@@ -1,11 +1,14 @@
-// Blocks: the check word, what a header asks for, the writer, where a record lies and what it holds.
+// Blocks: the check word, the reader, what a header asks for, and the writer.
 ghost use mathlib.Core.Path.{_≡_};
 ghost use lib.ListN.{length};
 ghost use Rattle.check_word.specs.Check.{checkWord};
+ghost use Rattle.block.specs.Answers.{answerOf};
+ghost use Rattle.block.specs.Answers as read;
 ghost use Rattle.header.specs.Plans.{planOf};
-ghost use Rattle.writer.specs.Answers.{writtenOf, roomAfter};
-ghost use Rattle.records.specs.Records.{partOf};
-ghost use Rattle.placement.specs.Placement.{placeOf};
+ghost use Rattle.writer.specs.Answers.{writtenOf};
+ghost use Rattle.writer.specs.Answers as write;
+ghost use Rattle.rahmisve.specs.Marks.{copiesIn};
+use crate::numbers::marked;
 
 #[no_mangle]
 pub extern "C" fn rahmisve_check_word(message: &[u8]) -> u16
@@ -15,7 +18,41 @@ pub extern "C" fn rahmisve_check_word(message: &[u8]) -> u16
 }
 
 #[no_mangle]
-pub extern "C" fn rahmisve_plan(header: &[u8], block: &mut u8, version: &mut u8, size: &mut u8, records: &mut u8, words: &mut usize, field: &mut usize) -> u8
+pub extern "C" fn rahmisve_read(
+    block: &[u8],
+    room: &mut [u16],
+    header: &mut [u8; 28],
+    copies: &mut [u8; 3],
+    words: &mut usize,
+) -> u8
+    ensures { λ r. ⌜ r ≡ answerOf (now (block .entry)) (length (now (room .entry))) .number ⌝ }
+    ensures { λ r. ⌜ now (header .exit) ≡ answerOf (now (block .entry)) (length (now (room .entry))) .header ⌝ }
+    ensures { λ r. ⌜ now (copies .exit) ≡ copiesIn (answerOf (now (block .entry)) (length (now (room .entry)))) ⌝ }
+    ensures { λ r. ⌜ now (words .exit) ≡ answerOf (now (block .entry)) (length (now (room .entry))) .words ⌝ }
+    ensures { λ r. ⌜ now (room .exit) ≡ read.roomAfter (now (block .entry)) (now (room .entry)) ⌝ }
+{
+    let answer = block::read(block, room);
+    let common = answer.header;
+    *header = common;
+    *copies = [
+        marked(answer.first),
+        marked(answer.second),
+        marked(answer.third),
+    ];
+    *words = answer.words;
+    answer.number
+}
+
+#[no_mangle]
+pub extern "C" fn rahmisve_plan(
+    header: &[u8],
+    block: &mut u8,
+    version: &mut u8,
+    size: &mut u8,
+    records: &mut u8,
+    words: &mut usize,
+    field: &mut usize,
+) -> u8
     ensures { λ r. ⌜ record { number = r; block = now (block .exit); version = now (version .exit); size = now (size .exit); records = now (records .exit); words = now (words .exit); bytes = now (field .exit) } ≡ planOf (now (header .entry)) ⌝ }
 {
     let plan = header::plan_of(header);
@@ -29,31 +66,16 @@ pub extern "C" fn rahmisve_plan(header: &[u8], block: &mut u8, version: &mut u8,
 }
 
 #[no_mangle]
-pub extern "C" fn rahmisve_write(header: &[u8], words: &[u16], room: &mut [u8], bytes: &mut usize) -> u8
+pub extern "C" fn rahmisve_write(
+    header: &[u8],
+    words: &[u16],
+    room: &mut [u8],
+    bytes: &mut usize,
+) -> u8
     ensures { λ r. ⌜ record { number = r; bytes = now (bytes .exit) } ≡ writtenOf (now (header .entry)) (now (words .entry)) (length (now (room .entry))) ⌝ }
-    ensures { λ r. ⌜ now (room .exit) ≡ roomAfter (now (header .entry)) (now (words .entry)) (now (room .entry)) ⌝ }
+    ensures { λ r. ⌜ now (room .exit) ≡ write.roomAfter (now (header .entry)) (now (words .entry)) (now (room .entry)) ⌝ }
 {
     let written = writer::write(header, words, room);
     *bytes = written.bytes;
     written.number
-}
-
-#[no_mangle]
-pub extern "C" fn rahmisve_record(header: &[u8], words: usize, record: u8, start: &mut usize, length: &mut usize) -> u8
-    ensures { λ r. ⌜ record { number = r; start = now (start .exit); length = now (length .exit) } ≡ partOf (now (header .entry)) «record» words ⌝ }
-{
-    let part = records::locate(header, words, record);
-    *start = part.start;
-    *length = part.length;
-    part.number
-}
-
-#[no_mangle]
-pub extern "C" fn rahmisve_place(block: u8, version: u8, record: u8, channel: &mut u8, detector: &mut u8) -> u8
-    ensures { λ r. ⌜ record { number = r; channel = now (channel .exit); detector = now (detector .exit) } ≡ placeOf block version «record» ⌝ }
-{
-    let placed = placement::place(block, version, record);
-    *channel = placed.channel;
-    *detector = placed.detector;
-    placed.number
 }

@@ -1,5 +1,9 @@
 // The C interface, whose manual is include/rahmisve.h: numbers and slices in, numbers out. Each function answers what the library's own
 // does, on every input. The number of the answer is returned; what else belongs to it goes to places that the caller lends for it.
 
-pub mod blocks; // the check word, header, writer, records and their placement
+mod numbers; // numbers and marks between C's types and the library's
+pub mod blocks; // the check word, the reader, what a header asks for, the writer
+pub mod detectors; // where a record lies, and what it holds
 pub mod sections; // longitudinal parity
+pub mod tags; // time tags both ways, elapsed time
+pub mod watches; // the scan watch, in ten numbers that the host keeps

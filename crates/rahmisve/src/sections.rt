@@ -1,16 +1,11 @@
-// Longitudinal parity: a mark for each section of a layout, 1 where its parity holds.
+// Longitudinal parity: a mark for each section of a layout.
 ghost use mathlib.Core.Path.{_≡_};
 ghost use mathlib.Core.List.{[], _∷_};
 ghost use Rattle.parity.specs.declared.Layout.the-variants.{ImagerSpacelook, SounderSpacelook};
 ghost use Rattle.parity.specs.Sections.{sectionsOf};
-ghost use Rattle.rahmisve.specs.Marks.{mark, marksAt};
+ghost use Rattle.rahmisve.specs.Marks.{marksAt};
+use crate::numbers::marked;
 use parity::Layout;
-
-fn marked(holds: bool) -> u8
-    ensures { λ r. ⌜ r ≡ mark holds ⌝ }
-{
-    if holds { 1 } else { 0 }
-}
 
 #[no_mangle]
 pub extern "C" fn rahmisve_parity_imager(words: &[u16], holds: &mut [u8; 4]) -> u8

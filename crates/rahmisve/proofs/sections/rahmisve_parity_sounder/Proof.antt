@@ -1,39 +1,32 @@
+-- `rahmisve::sections::rahmisve_parity_sounder` meets its contract: the marks of the verdicts given.
+-- Assumes nothing.
 use mathlib.Core.Path.{refl}
 use borrow.Author.Needs.{needs}
 use Rattle.rahmisve.proofs.sections.rahmisve_parity_sounder.Statement.{statement}
 use Rattle.rahmisve.proofs.sections.rahmisve_parity_sounder.Tie as tie
-use Rattle.rahmisve.proofs.sections.rahmisve_parity_sounder.Reads as reads
-use Rattle.rahmisve.proofs.sections.rahmisve_parity_sounder.Lts as lts
-use Rattle.parity.proofs.check_sections.Reads as check-sections-reads
-use Rattle.rahmisve.proofs.sections.marked.Reads as marked-reads
 
--- src/sections.rt:36:9
 check-sections-requires : tie.Need-check-sections-requires
 check-sections-requires c κs = search needs
 
--- src/sections.rt:38:22
 array-read-marked : tie.Need-array-read-marked
 array-read-marked c = search needs
 
--- src/sections.rt:38:15
 marked-requires : tie.Need-marked-requires
 marked-requires c κs = search needs
 
--- src/sections.rt:38:43
 array-read-marked-2 : tie.Need-array-read-marked-2
 array-read-marked-2 c = search needs
 
--- src/sections.rt:38:36
 marked-requires-2 : tie.Need-marked-requires-2
 marked-requires-2 c κs = search needs
 
--- src/sections.rt:31:1
 returns : tie.Need-returns
 returns c =
-    rw
-    ( ← (c .before .before .before .before .check-sections .ensures),
+    rw (
+      ← (c .before .before .before .before .check-sections .ensures),
       c .before .before .marked .ensures,
-      c .before .marked2 .ensures )
+      c .before .marked2 .ensures,
+    )
     (refl, refl)
 
 pub rahmisve-parity-sounder-spec : {M : Type 1} → statement M
