@@ -11,6 +11,8 @@ pub mod inputs;
 pub mod library;
 pub mod parity;
 pub mod placement;
+#[cfg(real)]
+pub mod real;
 pub mod recording;
 pub mod rows;
 pub mod tags;

@@ -13,7 +13,7 @@ use borrow.Author.Tests.{ltb-false, le-ltb, le-leb, eqb-true, ne-eqb, not-false}
 use Rattle.ground.specs.Choice.{pick}
 use Rattle.ground.specs.Grounds.{_when_, firstOf}
 use Rattle.ground.proofs.LawsChoice.{either}
-use Rattle.ground.proofs.LawsGrounds.{none-first, first-none, first-append, join, accepts}
+use Rattle.ground.proofs.LawsGrounds.{none-first, first-none, first-then, join, accepts}
 use Rattle.bits.specs.Fields.{wordsOf, badSize, fit, takeAnswer, roomTaken}
 use Rattle.check_word.specs.Check.{passes}
 use Rattle.row.specs.Promises.{Held}
@@ -24,7 +24,7 @@ use Rattle.header.specs.Copies.{copyLength, copiesLength, copyAt, common, commo
 use Rattle.header.specs.Plans.{headerGrounds, grantedPlan, planOf}
 use Rattle.header.proofs.LawsAgreed.{copy-long}
 use Rattle.header.proofs.LawsPlans.{long-first}
-use Rattle.header.proofs.KeepsHeader.{common-number, common-found, plan-number, plan-granted, plan-held}
+use Rattle.header.proofs.KeepsHeader.{common-number, common-found, plan-number, plan-granted, granted-held}
 use Rattle.block.specs.Layout.{blockLength, informationField}
 use Rattle.block.specs.Grounds.{wrongLength, fieldGrounds, firstIn, groundsOf, refusalOf}
 use Rattle.block.specs.Answers.{answerWith, acceptedAnswer, wordsBy}
@@ -91,8 +91,8 @@ module _ (block : List ℕ) where
       (λ e.
       ap (λ (n : ℕ). pick (eqb n 0) (F plan) n) (number-is e)
       ∙ join (firstOf (headerGrounds h)) (λ z. ap F (granted-is e z))
-      ∙ first-append (headerGrounds h) fields refl)
-      ∙ first-append (copiesGrounds block) (headerGrounds h ++ fields) refl
+      ∙ sym (first-then (headerGrounds h) fields refl))
+      ∙ sym (first-then (copiesGrounds block) (headerGrounds h ++ fields) refl)
 
   -- what holds where no ground does
   pub record Ready (room : ℕ) : Type 0 where
@@ -113,7 +113,7 @@ module _ (block : List ℕ) where
       record {
         common = common-found block cs;
         plan = granted-is cs hs;
-        held = plan-held h (ap (λ (p : Plan). p .number) (sym (plan-is cs) ∙ granted-is cs hs));
+        held = granted-held h (ap (λ (p : Plan). p .number) (sym (plan-is cs) ∙ granted-is cs hs));
         long = eqb-true (length block) (blockLength (bytesIn h)) (not-false _ (f .0));
         roomy = ltb-false room (wordsIn h) (f .1 .1 .0);
       }

@@ -35,14 +35,14 @@ checkDisagrees block = not (passes (drop copiesLength block))
 abbrev pub fillNotZero : (size words : ℕ) → List ℕ → Bool
 fillNotZero size words field = not (allZero (fillOf size words field))
 
--- of the field, which has so many words of a size in so many bytes
+-- of the field of a lent block, which has so many words of a size in so many bytes
 abbrev pub fieldGrounds : (size words bytes : ℕ) → List ℕ → ℕ → List Ground
-fieldGrounds size words bytes block room =
-    (8 when wrongLength bytes block)
+fieldGrounds size words bytes lent room =
+    (8 when wrongLength bytes lent)
     ∷ (17 when offBoundary bytes)
     ∷ (9 when smallRoom words room)
-    ∷ (10 when checkDisagrees block)
-    ∷ (11 when fillNotZero size words (informationField bytes block))
+    ∷ (10 when checkDisagrees lent)
+    ∷ (11 when fillNotZero size words (informationField bytes lent))
     ∷ []
 
 -- what the reader makes its number of: the copies' come before the plan's, and the plan's before the field's

@@ -1,4 +1,5 @@
-// Reading a block: its header copies, its information field and its check word. No block is trusted, and none is copied.
+// Reading a block: its header copies, its information field and its check word. No block is trusted, and no field is copied. What is
+// promised of it stands in specs/Promises.antt.
 ghost use mathlib.Core.Path.{_≡_};
 ghost use Prim.Native.Nat.{_≤_};
 ghost use lib.ListN.{length};

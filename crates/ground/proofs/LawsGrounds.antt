@@ -94,17 +94,6 @@ join n {x} {y} f = go (eqb n 0) refl
     go true e = f (eqb-true n 0 e)
     go false e = refl
 
--- the grounds of one list come before those of the next
-pub first-append : (xs ys : List Ground) → numbered xs ≡ true → pick (eqb (firstOf xs) 0) (firstOf ys) (firstOf xs) ≡ firstOf (xs ++ ys)
-first-append [] ys n = refl
-first-append (g ∷ gs) ys n =
-    let s = split (not (eqb (g .number) 0)) (numbered gs) n in go (g .holds) (not-true (eqb (g .number) 0) (s .0)) (first-append gs ys (s .1))
-  where
-    go : (t : Bool) → eqb (g .number) 0 ≡ false → pick (eqb (firstOf gs) 0) (firstOf ys) (firstOf gs) ≡ firstOf (gs ++ ys)
-        → pick (eqb (pick t (g .number) (firstOf gs)) 0) (firstOf ys) (pick t (g .number) (firstOf gs)) ≡ pick t (g .number) (firstOf (gs ++ ys))
-    go true e h = ap (λ (t : Bool). pick t (firstOf ys) (g .number)) e
-    go false e h = h
-
 -- an answer that goes by a refusal's number: a where it is 0, and f of it where it is not
 module _ {X : Type 0} (a : X) (f : ℕ → X) where
   pub accepts : {n : ℕ} → n ≡ 0 → a ≡ pick (eqb n 0) a (f n)

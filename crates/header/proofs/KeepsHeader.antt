@@ -89,14 +89,14 @@ module _ (h : List ℕ) where
       (eqb-true (length h) headerLength (not-false _ (n .0)), none-asks h (n .1))
 
   -- the field of a plan holds its words, and no plan has a longer one than the longest
-  pub plan-held : planOf h .number ≡ 0 → Held (sizeIn h) (wordsIn h) (bytesIn h)
-  plan-held e = words-held _ _ _ _ (plan-only e .1 .suits)
+  pub granted-held : planOf h .number ≡ 0 → Held (sizeIn h) (wordsIn h) (bytesIn h)
+  granted-held e = words-held _ _ _ _ (plan-only e .1 .suits)
 
   pub plan-short : planOf h .bytes ≤ longestField
   unfolding planOf
   plan-short =
       either (λ (p : Plan). p .bytes ≤ longestField) (eqb (firstOf (planGrounds h)) 0)
-      (λ e. plan-held (plan-number ∙ eqb-true (firstOf (planGrounds h)) 0 e) .short) (λ _. lit≤ tt)
+      (λ e. granted-held (plan-number ∙ eqb-true (firstOf (planGrounds h)) 0 e) .short) (λ _. lit≤ tt)
 
 pub grants-asked : GrantsAsked
 grants-asked = record { given = plan-asked; only = plan-only; zeros = plan-refused }

@@ -12,11 +12,10 @@ use Rattle.ground.specs.Grounds.{Ground, firstOf}
 use Rattle.ground.proofs.LawsChoice.{no}
 use Rattle.ground.proofs.LawsGrounds.{first-then}
 use Rattle.row.specs.Promises.{Held}
-use Rattle.row.proofs.LawsField.{words-held}
 use Rattle.header.specs.Says.{headerLength, sizeIn, wordsIn, bytesIn}
 use Rattle.header.specs.Plans.{planGrounds, planOf, grantedPlan}
 use Rattle.header.specs.declared.Plan.{Plan}
-use Rattle.header.proofs.KeepsHeader.{plan-number, plan-granted, grants-asked}
+use Rattle.header.proofs.KeepsHeader.{plan-number, plan-granted, granted-held, grants-asked}
 
 module _ (h : List ℕ) {p : Plan} (e : p ≡ planOf h) where
   number-is : p .number ≡ planOf h .number
@@ -40,4 +39,4 @@ module _ (h : List ℕ) {p : Plan} (e : p ≡ planOf h) where
     plan-long = grants-asked .only h (sym number-is ∙ z) .0
 
     pub plan-held : Held (sizeIn h) (wordsIn h) (bytesIn h)
-    plan-held = words-held _ _ _ _ (grants-asked .only h (sym number-is ∙ z) .1 .suits)
+    plan-held = granted-held h (sym number-is ∙ z)

@@ -33,6 +33,7 @@ pub struct Plan {
     pub bytes: usize,
 }
 
+// Reads the three copies in front of a block.
 pub fn common_copy(block: &[u8]) -> Common
     ensures { λ r. ⌜ r ≡ commonOf (now (block .entry)) ⌝ }
 {

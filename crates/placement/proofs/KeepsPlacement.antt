@@ -7,8 +7,9 @@ use Prim.Native.Nat.{ℕ, _≤_}
 use native.Mathlib.Omega.{arith}
 use lib.Dec.{T, eqb, eqb→eq}
 use borrow.Author.Tests.{le-ltb}
+use Rattle.row.specs.Rows as rows
 use Rattle.placement.specs.Placement.{heldIn, recordsIn, placeOf}
-use Rattle.placement.specs.Promises.{countOf, Counts, Refuses13, EveryVersion}
+use Rattle.placement.specs.Promises.{Counts, Refuses13, EveryVersion}
 use Rattle.placement.proofs.LawsBelow.{below, below-at}
 use Rattle.placement.proofs.LawsPlacement.{zero-or-above, absent, present}
 
@@ -18,9 +19,9 @@ tested p t block version hb hv =
     below-at 4 (p block) (below-at 12 (λ b. below 4 (p b)) t block (omega arith)) version (omega arith)
 
 pub counts : Counts
-unfolding recordsIn heldIn
+unfolding recordsIn heldIn rows.recordsIn
 counts block version hb hv =
-    eqb→eq (recordsIn block version) (countOf block) (tested (λ b v. eqb (recordsIn b v) (countOf b)) tt block version hb hv)
+    eqb→eq (recordsIn block version) (rows.recordsIn block version) (tested (λ b v. eqb (recordsIn b v) (rows.recordsIn b v)) tt block version hb hv)
 
 pub refuses-13 : Refuses13
 refuses-13 block version k hb hv = (

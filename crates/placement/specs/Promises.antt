@@ -3,19 +3,13 @@
 -- Assumes nothing.
 use Prim.Native.Nat.{ℕ, _≤_, _<_}
 use mathlib.Core.Path.{_≡_}
-use mathlib.Core.Bool.{_&&_}
 use mathlib.Core.Logic.{_⊎_, _↔_}
-use lib.Dec.{eqb, leb}
-use Rattle.ground.specs.Choice.{pick}
+use Rattle.row.specs.Rows as rows
 use Rattle.placement.specs.Placement.{recordsIn, placeOf}
 
--- Block 1 has 4 records, block 2 has 3, blocks 3 to 10 have 1; blocks 0 and 11 have none.
-abbrev pub countOf : ℕ → ℕ
-countOf block = pick (eqb block 1) 4 (pick (eqb block 2) 3 (pick (leb 3 block && leb block 10) 1 0))
-
--- The lists of the placement are as long as the blocks have records.
+-- A placement is found for as many records as the table of field sizes gives the block: record access and placement agree.
 abbrev pub Counts : Type 0
-Counts = (block version : ℕ) → block ≤ 11 → version ≤ 3 → recordsIn block version ≡ countOf block
+Counts = (block version : ℕ) → block ≤ 11 → version ≤ 3 → recordsIn block version ≡ rows.recordsIn block version
 
 -- Refusal 13 is given exactly where the record is 0 or above the number that the block has.
 abbrev pub Refuses13 : Type 0

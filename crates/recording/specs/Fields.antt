@@ -8,9 +8,13 @@ pub record Field : Type 0 where
   pub tag : ℕ
   pub body : List ℕ
 
+-- what stands in front of a body of so many bytes
+abbrev pub frontOf : (tag length : ℕ) → List ℕ
+frontOf tag n = tag ∷ n / 256 ∷ n % 256 ∷ []
+
 -- a field as it stands in a recording
 abbrev pub written : Field → List ℕ
-written f = f .tag ∷ length (f .body) / 256 ∷ length (f .body) % 256 ∷ f .body
+written f = frontOf (f .tag) (length (f .body)) ++ f .body
 
 -- a recording of whole fields
 unfoldable pub joined : List Field → List ℕ

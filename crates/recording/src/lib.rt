@@ -3,6 +3,7 @@
 ghost use mathlib.Core.Path.{_≡_};
 ghost use Prim.Native.Nat.{_<_};
 ghost use lib.ListN.{length};
+ghost use Rattle.recording.specs.Fields.{frontOf};
 ghost use Rattle.recording.specs.Found.{foundAt};
 ghost use Rattle.recording.specs.Lines.{refusedLine, lineOf, roomListed};
 
@@ -23,6 +24,13 @@ fn wide(b: u8) -> usize
     ensures { λ r. ⌜ (r ≡ b) × (r < 256) ⌝ }
 {
     b as usize
+}
+
+// The front of a field: its tag and the length of its body, high byte first.
+pub fn front_of(tag: u8, length: u16) -> [u8; 3]
+    ensures { λ r. ⌜ r ≡ frontOf tag length ⌝ }
+{
+    [tag, (length / 256) as u8, (length % 256) as u8]
 }
 
 // What stands at byte `at`.

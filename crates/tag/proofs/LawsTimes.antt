@@ -1,0 +1,87 @@
+-- The difference of two counts as an integer: by which is the larger, that it fits 64 bits, what tests of it say; and what elapsed
+-- time answers.
+-- Assumes nothing.
+use mathlib.Core.Path.{_≡_, refl, ap, _∙_, sym, subst}
+use Prim.Native.Nat.{ℕ, zero, suc, _+_, _-_, _≤_, _<_, _^_}
+use native.Mathlib.Omega.{arith}
+use mathlib.Core.Bool.{Bool, true, false, cond, _&&_}
+use mathlib.Core.List.{List}
+use lib.Dec.{ltb, le→leb, lt→ltb}
+use lib.IntN.{ℤ, pos, negsuc, subℕ, _-ℤ_}
+use lib.Signed.{mag, ltZ, _<ℤ_, _≤ℤ_, ltZ-yes, leZ-yes}
+use mir.Syntax.{w64}
+use mir.Val.{SFits, toZ, ofZ}
+use mir.Facts.{toZ-pos, toZ-ofZ}
+use borrow.Author.Needs.{sfits-of}
+use borrow.Author.Tests.{lt-ltb, le-ltb, ltb-true, ltb-false}
+use Rattle.ground.specs.Choice.{pick}
+use Rattle.tag.specs.Tags.{tagOf, goodTag}
+use Rattle.tag.specs.Times.{timeOf, between, elapsedOf}
+use Rattle.tag.specs.declared.Tag.{Tag}
+use Rattle.tag.specs.declared.time.Elapsed.{Elapsed}
+use Rattle.tag.proofs.LawsTests.{never}
+
+pub minus : (a b : ℕ) → pos a -ℤ pos b ≡ subℕ a b
+minus a zero =
+    let e : a + 0 ≡ a - 0 = omega arith in
+    rw (le-ltb a 0 (omega arith)) (ap pos e)
+minus a (suc b) = refl
+
+small : (a b : ℕ) (t : Bool) → a < 2 ^ 62 → b < 2 ^ 62 → mag (cond t (negsuc (b - suc a)) (pos (a - b))) < 2 ^ 63
+small a b true p q = omega arith
+small a b false p q = omega arith
+
+module _ (a b : ℕ) (p : a < 2 ^ 62) (q : b < 2 ^ 62) where
+  counts : toZ w64 a -ℤ toZ w64 b ≡ pos a -ℤ pos b
+  counts = rw (toZ-pos w64 {n = a} (omega arith), toZ-pos w64 {n = b} (omega arith))
+
+  pub fits : SFits w64 (toZ w64 a -ℤ toZ w64 b)
+  fits = subst (λ (z : ℤ). SFits w64 z) (sym (counts ∙ minus a b)) (sfits-of (small a b (ltb a b) p q))
+
+  pub exact : toZ w64 (ofZ w64 (toZ w64 a -ℤ toZ w64 b)) ≡ pos a -ℤ pos b
+  exact = toZ-ofZ fits ∙ counts
+
+-- Which side of zero a difference is on, and how far from it.
+below-zero : (a b : ℕ) → a < b → pos a -ℤ pos b ≡ negsuc (b - suc a)
+below-zero a b h = minus a b ∙ ap (λ (t : Bool). cond t (negsuc (b - suc a)) (pos (a - b))) (lt-ltb a b h)
+
+from-zero : (a b : ℕ) → b ≤ a → pos a -ℤ pos b ≡ pos (a - b)
+from-zero a b h = minus a b ∙ ap (λ (t : Bool). cond t (negsuc (b - suc a)) (pos (a - b))) (le-ltb a b h)
+
+-- The same of the time from one tag to a second.
+module _ (a b : Tag) where
+  pub earlier : timeOf b < timeOf a → between a b <ℤ pos 0
+  earlier h = subst (λ (z : ℤ). z <ℤ pos 0) (sym (below-zero (timeOf b) (timeOf a) h)) (ltZ-yes tt)
+
+  pub later : timeOf a < timeOf b → pos 0 <ℤ between a b
+  later h = subst (λ (z : ℤ). pos 0 <ℤ z) (sym (from-zero (timeOf b) (timeOf a) (omega arith))) (ltZ-yes (lt→ltb 0 (timeOf b - timeOf a) (omega arith)))
+
+  pub at-least-zero : timeOf a ≤ timeOf b → pos 0 ≤ℤ between a b
+  at-least-zero h = subst (λ (z : ℤ). pos 0 ≤ℤ z) (sym (from-zero (timeOf b) (timeOf a) h)) (leZ-yes (le→leb 0 (timeOf b - timeOf a) (omega arith)))
+
+  pub at-most : (n : ℕ) → timeOf a ≤ timeOf b → timeOf b ≤ timeOf a + n → between a b ≤ℤ pos n
+  at-most n h k = subst (λ (z : ℤ). z ≤ℤ pos n) (sym (from-zero (timeOf b) (timeOf a) h)) (leZ-yes (le→leb (timeOf b - timeOf a) n (omega arith)))
+
+  pub not-back : ltZ (between a b) (pos 0) ≡ false → timeOf a ≤ timeOf b
+  not-back h = by (ltb (timeOf b) (timeOf a)) refl
+    where
+      by : (t : Bool) → ltb (timeOf b) (timeOf a) ≡ t → timeOf a ≤ timeOf b
+      by true e = never (sym h ∙ ap (λ (z : ℤ). ltZ z (pos 0)) (below-zero (timeOf b) (timeOf a) (ltb-true (timeOf b) (timeOf a) e)))
+      by false e = ltb-false (timeOf b) (timeOf a) e
+
+  pub not-late : (n : ℕ) → ltZ (between a b) (pos 0) ≡ false → ltZ (pos n) (between a b) ≡ false → timeOf b ≤ timeOf a + n
+  not-late n f h =
+      let p : timeOf a ≤ timeOf b = not-back f in
+      omega (arith, ltb-false n (timeOf b - timeOf a) (ap (λ (z : ℤ). ltZ (pos n) z) (sym (from-zero (timeOf b) (timeOf a) p)) ∙ h))
+
+abbrev pub answer : ℕ → ℤ → Elapsed
+answer n d = record { number = n; ms = d }
+
+-- Of two good tags, and where one is bad.
+pub counted : (a b : List ℕ) → goodTag a ≡ true → goodTag b ≡ true → elapsedOf a b ≡ answer 0 (between (tagOf a) (tagOf b))
+unfolding elapsedOf
+counted a b p q = λ i. pick (p i && q i) (answer 0 (between (tagOf a) (tagOf b))) (answer 12 (pos 0))
+
+pub not-counted : (a b : List ℕ) → goodTag a && goodTag b ≡ false → elapsedOf a b ≡ answer 12 (pos 0)
+unfolding elapsedOf
+not-counted a b h = ap (λ (t : Bool). pick t (answer 0 (between (tagOf a) (tagOf b))) (answer 12 (pos 0))) h

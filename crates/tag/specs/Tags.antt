@@ -1,0 +1,86 @@
+-- A CDA time tag: where its numbers and its mark stand in eight bytes, the bounds of the numbers, and what reading and
+-- writing one answer.
+-- Assumes nothing.
+use Prim.Native.Nat.{ℕ, _+_, _%_}
+use mathlib.Core.Bool.{Bool, false, _&&_}
+use mathlib.Core.List.{List, _++_}
+use lib.Dec.{eqb, leb}
+use lib.ListN.{length, getD, set, take, drop, replicate}
+use Rattle.ground.specs.Choice.{pick}
+use Rattle.tag.specs.Calendar.{daysIn}
+use Rattle.tag.specs.Digits.{digitsOf, paired, decimal, valueOf, spelt}
+use Rattle.tag.specs.declared.Tag.{Tag}
+use Rattle.tag.specs.declared.TagRead.{TagRead}
+use Rattle.tag.specs.declared.TagBytes.{TagBytes}
+
+-- Bytes of a tag, and the first bit of one.
+abbrev bytesLong : ℕ
+bytesLong = 8
+
+abbrev firstBit : ℕ
+firstBit = 128
+
+-- The first bit of byte 3 is the flywheel mark
+abbrev pub marked : List ℕ → Bool
+marked s = leb firstBit (getD s 2 0)
+
+-- and no part of the day: the bytes without it.
+abbrev pub unmarked : List ℕ → List ℕ
+unmarked s = set s 2 (getD s 2 0 % firstBit)
+
+-- Bytes with the mark put on, where there is one.
+abbrev pub withMark : Bool → List ℕ → List ℕ
+withMark f s = set s 2 (pick f firstBit 0 + getD s 2 0)
+
+-- Eight bytes hold sixteen BCD digits.
+abbrev pub tagDigits : List ℕ → List ℕ
+tagDigits s = digitsOf (unmarked s)
+
+-- The number spelt by k digits, those after the first i.
+abbrev pub part : ℕ → ℕ → List ℕ → ℕ
+part i k ds = valueOf (take k (drop i ds))
+
+-- Year (4), day of year (3), hour (2), minute (2), second (2), millisecond (3): as bytes have them,
+unfoldable pub tagOf : List ℕ → Tag
+tagOf s =
+    record {
+      year = part 0 4 (tagDigits s);
+      day = part 4 3 (tagDigits s);
+      hour = part 7 2 (tagDigits s);
+      minute = part 9 2 (tagDigits s);
+      second = part 11 2 (tagDigits s);
+      ms = part 13 3 (tagDigits s);
+      flywheel = marked s;
+    }
+
+-- and the same numbers as digits.
+abbrev pub digitsOfTag : Tag → List ℕ
+digitsOfTag t = spelt 4 (t .year) ++ (spelt 3 (t .day) ++ (spelt 2 (t .hour) ++ (spelt 2 (t .minute) ++ (spelt 2 (t .second) ++ spelt 3 (t .ms)))))
+
+-- The eight bytes of a tag.
+unfoldable pub bytesOf : Tag → List ℕ
+bytesOf t = withMark (t .flywheel) (paired (digitsOfTag t))
+
+-- The bounds: year to 9999, day 1 to 365 (366 in a leap year), hour to 23, minute and second to 59, millisecond to 999.
+unfoldable pub inBounds : Tag → Bool
+inBounds t =
+    leb (t .year) 9999
+    && (leb 1 (t .day)
+    && (leb (t .day) (daysIn (t .year))
+    && (leb (t .hour) 23 && (leb (t .minute) 59 && (leb (t .second) 59 && leb (t .ms) 999)))))
+
+-- Bytes are a good tag where there are eight, no digit is above 9 and the numbers are within bounds.
+unfoldable pub goodTag : List ℕ → Bool
+goodTag s = eqb (length s) bytesLong && (decimal (tagDigits s) && inBounds (tagOf s))
+
+-- The tag whose numbers are zero, without the mark. No good one: its day is 0.
+abbrev pub zeroTag : Tag
+zeroTag = record { year = 0; day = 0; hour = 0; minute = 0; second = 0; ms = 0; flywheel = false }
+
+-- Reading: 0 and the tag; for a bad one 12 and zeros.
+unfoldable pub readTag : List ℕ → TagRead
+readTag s = pick (goodTag s) (record { number = 0; tag = tagOf s }) (record { number = 12; tag = zeroTag })
+
+-- Writing, within the same bounds: 0 and eight bytes; beyond them 12 and zeros.
+unfoldable pub writeTag : Tag → TagBytes
+writeTag t = pick (inBounds t) (record { number = 0; bytes = bytesOf t }) (record { number = 12; bytes = replicate bytesLong 0 })

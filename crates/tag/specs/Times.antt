@@ -1,0 +1,23 @@
+-- What time a tag says, and the time from one tag to a second.
+-- Assumes nothing.
+use Prim.Native.Nat.{ℕ, _+_, _*_}
+use mathlib.Core.Bool.{_&&_}
+use mathlib.Core.List.{List}
+use lib.IntN.{ℤ, pos, _-ℤ_}
+use Rattle.ground.specs.Choice.{pick}
+use Rattle.tag.specs.Calendar.{daysBefore}
+use Rattle.tag.specs.Tags.{goodTag, tagOf}
+use Rattle.tag.specs.declared.Tag.{Tag}
+use Rattle.tag.specs.declared.time.Elapsed.{Elapsed}
+
+-- Milliseconds from the midnight that begins the day before day 1 of year 0. The flywheel mark doesn't enter.
+unfoldable pub timeOf : Tag → ℕ
+timeOf t = ((((daysBefore (t .year) + t .day) * 24 + t .hour) * 60 + t .minute) * 60 + t .second) * 1000 + t .ms
+
+-- A signed count of milliseconds: negative where the second is earlier.
+abbrev pub between : Tag → Tag → ℤ
+between a b = pos (timeOf b) -ℤ pos (timeOf a)
+
+-- The same of two tags as bytes: 0 and the count; where either is bad 12 and zero.
+unfoldable pub elapsedOf : List ℕ → List ℕ → Elapsed
+elapsedOf a b = pick (goodTag a && goodTag b) (record { number = 0; ms = between (tagOf a) (tagOf b) }) (record { number = 12; ms = pos 0 })

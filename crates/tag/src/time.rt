@@ -1,0 +1,39 @@
+// What time a tag says, as a count of milliseconds.
+ghost use mathlib.Core.Path.{_≡_};
+ghost use mathlib.Core.Bool.{_&&_};
+ghost use Prim.Native.Nat.{_<_, _^_};
+ghost use lib.Dec.{eqb};
+ghost use Rattle.tag.specs.Times.{timeOf};
+use crate::Tag;
+use crate::calendar;
+
+// What the time between two lent tags answers: 0 and the milliseconds, or 12 and zero.
+pub struct Elapsed {
+    pub number: u8,
+    pub ms: i64,
+}
+
+const HOURS: u64 = 24;
+
+const MINUTES: u64 = 60;
+
+const SECONDS: u64 = 60;
+
+const MS: u64 = 1000;
+
+// Milliseconds to a tag's time, for any numbers in it; the difference of two fits an i64.
+pub(crate) fn milliseconds(tag: Tag) -> u64
+    ensures { λ r. ⌜ (r ≡ timeOf tag) × (r < 2 ^ 62) ⌝ }
+{
+    let days = calendar::days_before(tag.year) as u64 + tag.day as u64;
+    let hours = days * HOURS + tag.hour as u64;
+    let minutes = hours * MINUTES + tag.minute as u64;
+    let seconds = minutes * SECONDS + tag.second as u64;
+    seconds * MS + tag.ms as u64
+}
+
+pub(crate) fn both_good(first: u8, second: u8) -> bool
+    ensures { λ r. ⌜ r ≡ eqb first 0 && eqb second 0 ⌝ }
+{
+    (first == ground::ACCEPTED) & (second == ground::ACCEPTED)
+}

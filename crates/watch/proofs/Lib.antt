@@ -1,0 +1,4 @@
+pub mod LawsRules
+pub mod LawsTurn
+pub mod KeepsRules
+pub mod KeepsScans

@@ -1,0 +1,42 @@
+-- What an offer is refused for: a lent record outside its bounds, then the block, then its tag.
+-- Assumes nothing.
+use Prim.Native.Nat.{ℕ}
+use mathlib.Core.Bool.{Bool, not, _&&_, _||_}
+use mathlib.Core.List.{List, [], _∷_}
+use lib.Dec.{ltb}
+use Rattle.ground.specs.Grounds.{Ground, _when_, firstOf}
+use Rattle.tag.specs.Tags.{inBounds, goodTag}
+use Rattle.watch.specs.declared.Watch.{Watch}
+
+-- The longest waiting limit, in ms.
+abbrev pub longestWait : ℕ
+longestWait = 3600000
+
+-- The last block of a scan, which is the last that a watch expects.
+abbrev pub lastOfScan : ℕ
+lastOfScan = 10
+
+abbrev pub lastBlock : ℕ
+lastBlock = 11
+
+-- A limit above the longest. The expected block and the last tag are read only when the watch is open.
+abbrev pub badLimit : Watch → Bool
+badLimit w = ltb longestWait (w .limit)
+
+abbrev pub badExpected : Watch → Bool
+badExpected w = w .opened && (ltb (w .expected) 1 || ltb lastOfScan (w .expected))
+
+abbrev pub badLast : Watch → Bool
+badLast w = w .opened && not (inBounds (w .last))
+
+-- The offered block is tested (4), then its tag (12), which is good or not.
+abbrev pub offered : ℕ → Bool → List Ground
+offered b good = (4 when ltb lastBlock b) ∷ (12 when not good) ∷ []
+
+-- Before that a lent record outside its bounds is refused: 16 for a limit, 13 for an expected block, 12 for a last tag, in that order.
+abbrev pub grounds : Watch → ℕ → Bool → List Ground
+grounds w b good = (16 when badLimit w) ∷ (13 when badExpected w) ∷ (12 when badLast w) ∷ offered b good
+
+-- The number of an offer of a block and its tag's bytes.
+unfoldable pub refusalOf : Watch → ℕ → List ℕ → ℕ
+refusalOf w b s = firstOf (grounds w b (goodTag s))

@@ -1,0 +1,5 @@
+pub mod Verdicts
+pub mod Bounds
+pub mod Rules
+pub mod Offers
+pub mod Promises

@@ -1,0 +1,67 @@
+-- What is promised of the watch: of its beginning and of one offer, kept in proofs/KeepsRules.antt, then of any sequence of offers,
+-- kept in proofs/KeepsScans.antt.
+-- Assumes nothing.
+use mathlib.Core.Path.{_≡_}
+use Prim.Native.Nat.{ℕ, _*_, _≤_, _<_}
+use mathlib.Core.Bool.{true, false}
+use mathlib.Core.List.{List, _∷_, _++_}
+use lib.IntN.{ℤ, pos}
+use lib.Signed.{_≤ℤ_}
+use Rattle.tag.specs.Tags.{tagOf}
+use Rattle.tag.specs.Times.{between, elapsedOf}
+use Rattle.tag.specs.Promises.{IsTag}
+use Rattle.watch.specs.Verdicts.{numberOf, closes, completes}
+use Rattle.watch.specs.Bounds.{longestWait, lastOfScan, lastBlock, refusalOf}
+use Rattle.watch.specs.Rules.{idle, expecting, beginOf, stepOf}
+use Rattle.watch.specs.Offers.{Offer, nextOf, verdictOf, after, begins, noneBegins}
+use Rattle.watch.specs.declared.Watch.{Watch}
+use Rattle.watch.specs.declared.Closing.the-variants.{Broken}
+use Rattle.watch.specs.declared.Verdict.the-variants.{Stray, Opened, Closed}
+
+-- A watch begins idle, with a limit from 0 to 3,600,000 ms; above it 16, with zeros.
+pub record Beginning : Type 0 where
+  pub taken : (limit : ℕ) → limit ≤ longestWait → beginOf limit ≡ record { number = 0; watch = idle limit }
+  pub refused : (limit : ℕ) → longestWait < limit → beginOf limit ≡ record { number = 16; watch = idle 0 }
+
+pub record OneOffer : Type 0 where
+  -- The number given is that of the first ground in the list.
+  pub number : (w : Watch) (b : ℕ) (s : List ℕ) → numberOf (stepOf w b s .verdict) ≡ refusalOf w b s
+  -- A refused record comes back as given; a stray leaves the watch as it is.
+  pub refused : (w : Watch) (b : ℕ) (s : List ℕ) → (refusalOf w b s ≡ 0 → ⊥) → stepOf w b s .next ≡ w
+  pub stray : (w : Watch) (b : ℕ) (s : List ℕ) → stepOf w b s .verdict ≡ Stray → stepOf w b s .next ≡ w
+  -- What an idle record holds is not read: two of one limit get one verdict, and the same watch where a scan opens.
+  pub unread : (v w : Watch) (b : ℕ) (s : List ℕ) → v .opened ≡ false → w .opened ≡ false → v .limit ≡ w .limit
+      → stepOf v b s .verdict ≡ stepOf w b s .verdict
+  pub opening : (w : Watch) (b : ℕ) (s : List ℕ) → stepOf w b s .verdict ≡ Opened → stepOf w b s .next ≡ expecting 1 (tagOf s) (w .limit)
+  -- A closing offer that is block 0 also opens a new scan. After any other closing the watch is idle, its expected block and tag zero.
+  pub anew : (w : Watch) (b : ℕ) (s : List ℕ) → closes (stepOf w b s .verdict) ≡ true → b ≡ 0 → stepOf w b s .next ≡ expecting 1 (tagOf s) (w .limit)
+  pub at-rest : (w : Watch) (b : ℕ) (s : List ℕ) → closes (stepOf w b s .verdict) ≡ true → (b ≡ 0 → ⊥) → stepOf w b s .next ≡ idle (w .limit)
+  -- Block 11 while open is broken, unless the clock decides first.
+  pub eleven : (w : Watch) (s : List ℕ) → refusalOf w lastBlock s ≡ 0 → w .opened ≡ true → pos 0 ≤ℤ between (w .last) (tagOf s)
+      → between (w .last) (tagOf s) ≤ℤ pos (w .limit) → stepOf w lastBlock s .verdict ≡ Closed Broken
+  -- The limit stays.
+  pub limit : (w : Watch) (b : ℕ) (s : List ℕ) → stepOf w b s .next .limit ≡ w .limit
+
+-- After the offers os to a watch: the block 0 that began the scan it is in was offered and accepted, with none after it.
+pub record BegunBy (w : Watch) (os : List Offer) : Type 0 where
+  pub earlier : List Offer
+  pub first : Offer
+  pub since : List Offer
+  pub parts : os ≡ earlier ++ (first ∷ since)
+  pub begun : begins (after w earlier) first ≡ true
+  pub none-since : noneBegins (nextOf (after w earlier) first) since ≡ true
+
+-- The offer o after the offers os completes a scan, which its block 10 ends, from 0 to ten times the limit after its block 0.
+pub record Scan (limit : ℕ) (os : List Offer) (o : Offer) : Type 0 where
+  pub by : BegunBy (idle limit) os
+  pub ten : o .block ≡ lastOfScan
+  pub number : elapsedOf (by .first .tag) (o .tag) .number ≡ 0
+  pub forward : pos 0 ≤ℤ elapsedOf (by .first .tag) (o .tag) .ms
+  pub soon : elapsedOf (by .first .tag) (o .tag) .ms ≤ℤ pos (10 * limit)
+
+pub record AnyOffers : Type 0 where
+  -- Over any offers to a watch begun idle, refused ones among them.
+  pub completed : (limit : ℕ) (os : List Offer) (o : Offer) → completes (verdictOf (after (idle limit) os) o) ≡ true → Scan limit os o
+  -- Nor does such a watch ever refuse a known block with a good tag.
+  pub never-refused : (limit : ℕ) (os : List Offer) (o : Offer) → limit ≤ longestWait → o .block ≤ lastBlock → IsTag (o .tag)
+      → numberOf (verdictOf (after (idle limit) os) o) ≡ 0

@@ -1,0 +1,163 @@
+//! recordings DIR [SEED COUNT]: writes recordings for the listing program into DIR, each as NAME.rec beside the
+//! listing that the model gives it, NAME.txt: one with every answer that a listing can have, the printed example,
+//! what the program `sample` makes, an empty one, one cut in a tag, a length and a body each, and COUNT random ones.
+
+use std::path::Path;
+use std::process::ExitCode;
+
+use independent::block::write;
+use independent::check::check_bytes;
+use independent::document::header;
+use independent::inputs::{field, recording, Dice};
+use independent::recording::list;
+use independent::rows::{c_of_n, id_of_block};
+
+/// A block of the narrowest scan, or of the fixed length.
+fn block(number: u8, version: u8) -> Vec<u8> {
+    let (size, c) = match number {
+        0 => (8, 8_040),
+        11 => [(6, 10_720), (8, 8_040), (10, 6_432), (8, 8_040)][version as usize],
+        _ => (10, c_of_n(number, 1)),
+    };
+    let words: Vec<u16> = (0..c).map(|k| ((k * 7 + version as usize) % (1 << size)) as u16).collect();
+    let mut dest = vec![0; 32_000];
+    let (answer, length) = write(&header(id_of_block(number), size, version, c as u16), &words, &mut dest);
+    assert_eq!(answer, 0);
+    dest.truncate(length);
+    dest
+}
+
+/// The same block with three equal copies of another header, their checks right.
+fn reheaded(mut block: Vec<u8>, change: impl Fn(&mut [u8])) -> Vec<u8> {
+    for k in 0..3 {
+        let copy = &mut block[k * 30..][..30];
+        change(copy);
+        let check = check_bytes(&copy[..28]);
+        copy[28..].copy_from_slice(&check);
+    }
+    block
+}
+
+fn with_bit(mut block: Vec<u8>, byte: usize, bit: u8) -> Vec<u8> {
+    block[byte] ^= bit;
+    block
+}
+
+fn resealed(mut block: Vec<u8>) -> Vec<u8> {
+    let end = block.len() - 2;
+    let check = check_bytes(&block[90..end]);
+    block[end..].copy_from_slice(&check);
+    block
+}
+
+fn every_answer() -> Vec<u8> {
+    let mut bytes = Vec::new();
+    let mut add = |tag: u8, body: &[u8]| bytes.extend(field(tag, body));
+    for number in 0..12 {
+        add(1, &block(number, number % 4));
+    }
+    for version in 0..4 {
+        add(1, &block(11, version));
+    }
+    let good = || block(3, 2);
+    // one copy hit, two copies hit: still read
+    add(1, &with_bit(good(), 4, 0x10));
+    add(1, &with_bit(with_bit(good(), 4, 0x10), 65, 1));
+    add(1, &[]);
+    add(1, &good()[..89]);
+    add(1, &with_bit(with_bit(with_bit(good(), 4, 0x10), 35, 2), 65, 1)); // 2
+    let mut differ = good();
+    differ[..30].copy_from_slice(&block(3, 1)[..30]);
+    add(1, &differ); // 3
+    add(1, &reheaded(good(), |copy| copy[0] = 0)); // 4
+    add(1, &reheaded(good(), |copy| copy[0] = 15)); // 4, the idle block
+    add(1, &reheaded(good(), |copy| copy[7] = 4)); // 5
+    add(1, &reheaded(good(), |copy| copy[1] = 8)); // 6
+    add(1, &reheaded(good(), |copy| copy[3] = 23)); // 7
+    add(1, &reheaded(good(), |copy| copy[2..4].copy_from_slice(&[0, 1]))); // 7, a count too small
+    add(1, &good()[..good().len() - 1]); // 8
+    add(1, &[good(), vec![0]].concat()); // 8
+    add(1, &with_bit(good(), 100, 0x40)); // 10
+    add(1, &resealed(with_bit(good(), 90 + 2_679, 1))); // 11
+    add(2, &good()); // 15
+    add(0, &[]); // 15
+    add(1, &good());
+    bytes
+}
+
+/// One acceptable block 3, version 2, C = 20, then a field of 89 bytes.
+fn example() -> Vec<u8> {
+    [field(1, &block(3, 2)), field(1, &[0; 89])].concat()
+}
+
+/// What the program `sample` makes: a scan of a hundred pixels, blocks 11, and damaged fields.
+fn sample() -> Vec<u8> {
+    let made = |number: u8, size: u8, c: u16, version: u8| {
+        let mut header = header(id_of_block(number), size, version, c);
+        header[8] = 1;
+        let words: Vec<u16> = (0..c).map(|k| k % 61).collect();
+        let mut dest = vec![0; 32_000];
+        let (answer, length) = write(&header, &words, &mut dest);
+        assert_eq!(answer, 0);
+        dest.truncate(length);
+        dest
+    };
+    let mut bytes = Vec::new();
+    let mut add = |tag: u8, body: &[u8]| bytes.extend(field(tag, body));
+    add(1, &made(0, 8, 8_040, 2));
+    for number in 1..=10 {
+        add(1, &made(number, 10, c_of_n(number, 100) as u16, 2));
+    }
+    for (size, c, version) in [(8, 8_040, 0), (6, 10_720, 1), (10, 6_432, 2), (8, 8_040, 3)] {
+        add(1, &made(11, size, c, version));
+    }
+    let third = made(3, 10, 416, 2);
+    add(1, &with_bit(third.clone(), 5, 16));
+    add(1, &with_bit(third.clone(), 200, 1));
+    add(1, &third[..third.len() - 1]);
+    add(2, &third);
+    add(1, &third[..third.len() - 2_700]);
+    bytes
+}
+
+fn save(dir: &Path, name: &str, bytes: &[u8]) -> std::io::Result<()> {
+    std::fs::write(dir.join(format!("{name}.rec")), bytes)?;
+    std::fs::write(dir.join(format!("{name}.txt")), list(bytes))
+}
+
+fn save_all(dir: &Path, seed: u64, count: u64) -> std::io::Result<()> {
+    save(dir, "every", &every_answer())?;
+    save(dir, "example", &example())?;
+    save(dir, "sample", &sample())?;
+    save(dir, "empty", &[])?;
+    let whole = field(1, &block(5, 0));
+    for (name, end) in [("cut-tag", 1), ("cut-length", 2), ("cut-front", 3), ("cut-body", 1_000)] {
+        save(dir, name, &[&whole[..], &whole[..end]].concat())?;
+    }
+    for number in 0..count {
+        save(dir, &format!("random-{number}"), &recording(&mut Dice::for_case(seed, number)))?;
+    }
+    Ok(())
+}
+
+fn main() -> ExitCode {
+    let words: Vec<String> = std::env::args().skip(1).collect();
+    let (dir, seed, count) = match words.as_slice() {
+        [dir] => (dir, Ok(0), Ok(0)),
+        [dir, seed, count] => (dir, seed.parse(), count.parse()),
+        _ => return usage(),
+    };
+    let (Ok(seed), Ok(count)) = (seed, count) else { return usage() };
+    match save_all(Path::new(dir), seed, count) {
+        Ok(()) => ExitCode::SUCCESS,
+        Err(why) => {
+            eprintln!("{dir}: {why}");
+            ExitCode::FAILURE
+        }
+    }
+}
+
+fn usage() -> ExitCode {
+    eprintln!("usage: recordings DIR [SEED COUNT]");
+    ExitCode::from(2)
+}
