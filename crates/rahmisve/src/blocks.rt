@@ -1,7 +1,6 @@
-// Blocks: the check word, the reader, what a header asks for, and the writer.
+// Blocks: the reader, what a header asks for, and the writer.
 ghost use mathlib.Core.Path.{_≡_};
 ghost use lib.ListN.{length};
-ghost use Rattle.check_word.specs.Check.{checkWord};
 ghost use Rattle.block.specs.Answers.{answerOf};
 ghost use Rattle.block.specs.Answers as read;
 ghost use Rattle.header.specs.Plans.{planOf};
@@ -9,13 +8,6 @@ ghost use Rattle.writer.specs.Answers.{writtenOf};
 ghost use Rattle.writer.specs.Answers as write;
 ghost use Rattle.rahmisve.specs.Marks.{copiesIn};
 use crate::numbers::marked;
-
-#[no_mangle]
-pub extern "C" fn rahmisve_check_word(message: &[u8]) -> u16
-    ensures { λ r. ⌜ r ≡ checkWord (now (message .entry)) ⌝ }
-{
-    check_word::check_word(message)
-}
 
 #[no_mangle]
 pub extern "C" fn rahmisve_read(

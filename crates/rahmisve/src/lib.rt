@@ -2,7 +2,8 @@
 // does, on every input. The number of the answer is returned; what else belongs to it goes to places that the caller lends for it.
 
 mod numbers; // numbers and marks between C's types and the library's
-pub mod blocks; // the check word, the reader, what a header asks for, the writer
+pub mod fields; // the check word, words out of a field and into one
+pub mod blocks; // the reader, what a header asks for, the writer
 pub mod detectors; // where a record lies, and what it holds
 pub mod sections; // longitudinal parity
 pub mod tags; // time tags both ways, elapsed time

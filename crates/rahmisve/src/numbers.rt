@@ -5,16 +5,16 @@ ghost use lib.Dec.{eqb};
 ghost use Rattle.rahmisve.specs.Numbers.{upTo};
 ghost use Rattle.rahmisve.specs.Marks.{mark};
 
-const LARGEST_BYTE: u8 = 255;
+const LARGEST_BYTE: u32 = 255;
 
-const LARGEST_PAIR: u16 = 65535;
+const LARGEST_PAIR: u32 = 65535;
 
 // The number, or 255 where it is more.
 pub(crate) fn in_byte(n: u32) -> u8
     ensures { λ r. ⌜ r ≡ upTo 255 n ⌝ }
 {
-    if (LARGEST_BYTE as u32) < n {
-        return LARGEST_BYTE;
+    if LARGEST_BYTE < n {
+        return LARGEST_BYTE as u8;
     }
     n as u8
 }
@@ -23,8 +23,8 @@ pub(crate) fn in_byte(n: u32) -> u8
 pub(crate) fn in_pair(n: u32) -> u16
     ensures { λ r. ⌜ r ≡ upTo 65535 n ⌝ }
 {
-    if (LARGEST_PAIR as u32) < n {
-        return LARGEST_PAIR;
+    if LARGEST_PAIR < n {
+        return LARGEST_PAIR as u16;
     }
     n as u16
 }
