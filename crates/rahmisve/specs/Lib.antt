@@ -1,0 +1,4 @@
+pub mod Numbers
+pub mod Marks
+pub mod Times
+pub mod Watches
