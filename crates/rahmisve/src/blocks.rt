@@ -4,8 +4,7 @@ ghost use lib.ListN.{length};
 ghost use Rattle.block.specs.Answers.{answerOf};
 ghost use Rattle.block.specs.Answers as read;
 ghost use Rattle.header.specs.Plans.{planOf};
-ghost use Rattle.writer.specs.Answers.{writtenOf};
-ghost use Rattle.writer.specs.Answers as write;
+ghost use Rattle.writer.specs.Answers.{writtenOf, roomWritten};
 ghost use Rattle.rahmisve.specs.Marks.{copiesIn};
 use crate::numbers::marked;
 
@@ -65,7 +64,7 @@ pub extern "C" fn rahmisve_write(
     bytes: &mut usize,
 ) -> u8
     ensures { λ r. ⌜ record { number = r; bytes = now (bytes .exit) } ≡ writtenOf (now (header .entry)) (now (words .entry)) (length (now (room .entry))) ⌝ }
-    ensures { λ r. ⌜ now (room .exit) ≡ write.roomAfter (now (header .entry)) (now (words .entry)) (now (room .entry)) ⌝ }
+    ensures { λ r. ⌜ now (room .exit) ≡ roomWritten (now (header .entry)) (now (words .entry)) (now (room .entry)) ⌝ }
 {
     let written = writer::write(header, words, room);
     *bytes = written.bytes;
