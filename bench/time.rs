@@ -26,8 +26,8 @@ baseline!(good_check, good_unpack, good_pack, good_read, good_write);
 
 extern "C" {
     fn rahmisve_check_word(message: *const u8, length: usize) -> u16;
-    fn rahmisve_take_words(field: *const u8, field_length: usize, size: u8, count: usize, room: *mut u16, room_length: usize) -> u8;
-    fn rahmisve_put_words(words: *const u16, words_length: usize, size: u8, field: *mut u8, field_length: usize) -> u8;
+    fn rahmisve_take_words(field: *const u8, field_length: usize, size: u32, count: usize, room: *mut u16, room_length: usize) -> u8;
+    fn rahmisve_put_words(words: *const u16, words_length: usize, size: u32, field: *mut u8, field_length: usize) -> u8;
     fn rahmisve_read(
         block: *const u8, block_length: usize, room: *mut u16, room_length: usize,
         header: *mut [u8; 28], copies: *mut [u8; 3], words: *mut usize,
@@ -96,11 +96,11 @@ fn ways(what: &str) -> [Way; 4] {
     match what {
         "check word" => [check!(rahmisve_check_word), check!(plain_check), check!(good_check), check!(idiomatic_check)],
         "unpack" => [
-            Box::new(|t| unsafe { let (p, n) = field(t); assert_eq!(rahmisve_take_words(p, n, t.size as u8, t.words.len(), t.room.as_mut_ptr(), t.room.len()), 0) }),
+            Box::new(|t| unsafe { let (p, n) = field(t); assert_eq!(rahmisve_take_words(p, n, t.size as u32, t.words.len(), t.room.as_mut_ptr(), t.room.len()), 0) }),
             unpack!(plain_unpack), unpack!(good_unpack), unpack!(idiomatic_unpack),
         ],
         "pack" => [
-            Box::new(|t| unsafe { let n = t.field().len(); assert_eq!(rahmisve_put_words(t.words.as_ptr(), t.words.len(), t.size as u8, t.dest.as_mut_ptr(), n), 0) }),
+            Box::new(|t| unsafe { let n = t.field().len(); assert_eq!(rahmisve_put_words(t.words.as_ptr(), t.words.len(), t.size as u32, t.dest.as_mut_ptr(), n), 0) }),
             pack!(plain_pack), pack!(good_pack), pack!(idiomatic_pack),
         ],
         "read" => [

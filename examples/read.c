@@ -1,0 +1,72 @@
+/* read [FILE]: reads one block, of the file or of standard input, and prints what it holds: the header's numbers, which header copies
+ * passed, each detector record with its channel and detector, and the time. A worked example of the reader. */
+#include <stdio.h>
+
+#include "rahmisve.h"
+
+/* The time of the header's tag, and how long after midnight that is. */
+static void print_time(const uint8_t *tag)
+{
+    uint32_t time[RAHMISVE_TIME_NUMBERS], midnight[RAHMISVE_TIME_NUMBERS] = {0};
+    uint8_t begin[RAHMISVE_TAG_BYTES];
+    int64_t ms;
+
+    unsigned answer = rahmisve_read_tag(tag, RAHMISVE_TAG_BYTES, time);
+    if (answer != RAHMISVE_ACCEPTED) {
+        printf("time: refused, %u\n", answer);
+        return;
+    }
+    midnight[RAHMISVE_YEAR] = time[RAHMISVE_YEAR];
+    midnight[RAHMISVE_DAY] = time[RAHMISVE_DAY];
+    rahmisve_write_tag(midnight, begin);
+    rahmisve_elapsed(begin, sizeof begin, tag, RAHMISVE_TAG_BYTES, &ms);
+    printf("time: %u day %u, %02u:%02u:%02u.%03u%s, %ld ms after midnight\n", (unsigned)time[RAHMISVE_YEAR], (unsigned)time[RAHMISVE_DAY],
+           (unsigned)time[RAHMISVE_HOUR], (unsigned)time[RAHMISVE_MINUTE], (unsigned)time[RAHMISVE_SECOND],
+           (unsigned)time[RAHMISVE_MILLISECOND], time[RAHMISVE_FLYWHEEL] ? " by flywheel" : "", (long)ms);
+}
+
+/* The records among the words, each with what it holds and its first pixel, which stands behind 16 words of line documentation. */
+static void print_records(const uint8_t *header, unsigned block, unsigned version, unsigned records, const uint16_t *words, size_t count)
+{
+    for (unsigned k = 1; k <= records; k++) {
+        size_t start, length;
+        uint8_t channel, detector;
+        if (rahmisve_record(header, RAHMISVE_HEADER_BYTES, count, k, &start, &length) != RAHMISVE_ACCEPTED)
+            continue;
+        rahmisve_place(block, version, k, &channel, &detector);
+        printf("record %u: channel %u, detector %u, %zu words from word %zu, first pixel %u\n", k, channel, detector, length, start,
+               words[start + 16]);
+    }
+}
+
+int main(int argc, char **argv)
+{
+    static uint8_t bytes[RAHMISVE_MOST_BYTES + 1]; /* a byte more, so that a longer file shows as too long */
+    static uint16_t words[RAHMISVE_MOST_WORDS];
+    uint8_t header[RAHMISVE_HEADER_BYTES], copies[RAHMISVE_COPIES], block, version, size, records;
+    size_t length, count, field;
+
+    FILE *file = argc > 1 ? fopen(argv[1], "rb") : stdin;
+    if (!file) {
+        perror(argv[1]);
+        return 2;
+    }
+    length = fread(bytes, 1, sizeof bytes, file);
+    if (ferror(file)) {
+        perror("read");
+        return 2;
+    }
+    fclose(file);
+
+    unsigned answer = rahmisve_read(bytes, length, words, RAHMISVE_MOST_WORDS, header, copies, &count);
+    if (answer != RAHMISVE_ACCEPTED) {
+        printf("refused: %u\n", answer);
+        return 1;
+    }
+    rahmisve_plan(header, sizeof header, &block, &version, &size, &records, &count, &field);
+    printf("block %u, version %u: %zu words of %u bits in a field of %zu bytes\n", block, version, count, size, field);
+    printf("header copies that passed:%s%s%s\n", copies[0] ? " 1" : "", copies[1] ? " 2" : "", copies[2] ? " 3" : "");
+    print_records(header, block, version, records, words, count);
+    print_time(header + 16);
+    return 0;
+}

@@ -1,0 +1,735 @@
+/* Calls each function of include/rahmisve.h with values that would show a parameter in the wrong place or of the wrong width, with empty
+ * buffers at NULL, at odd addresses, and into every refusal that it has. What is expected is worked out here, bit by bit, or written
+ * down; nothing is asked of the library twice. Prints a line `ok - ..` or `not ok - ..` for each thing tried.
+ *
+ * It needs no header but those for the types, so that it can be built where a C library has none. */
+#include "rahmisve.h"
+
+int printf(const char *, ...);
+int memcmp(const void *, const void *, size_t);
+void *memcpy(void *, const void *, size_t);
+void *memset(void *, int, size_t);
+
+static int good, all_good = 1;
+
+#define IS(what) ((what) ? (void)0 : (void)(good = 0, printf("# line %d: not so: %s\n", __LINE__, #what)))
+
+static void told(const char *what)
+{
+    printf("%s - %s\n", good ? "ok" : "not ok", what);
+    all_good &= good;
+    good = 1;
+}
+
+/* ---- the format once more, plain and slow --------------------------------------------------------------------------------------- */
+
+static unsigned crc(const uint8_t *bytes, size_t n)
+{
+    unsigned long reg = 0xFFFF;
+    for (size_t i = 0; i < 8 * n; i++) {
+        unsigned bit = (unsigned)bytes[i / 8] >> (7 - i % 8) & 1u;
+        reg = (reg << 1 & 0xFFFF) ^ (((reg >> 15 & 1) ^ bit) ? 0x1021u : 0u);
+    }
+    return (unsigned)(~reg & 0xFFFF);
+}
+
+static void seal(uint8_t *message, size_t n)
+{
+    unsigned check = crc(message, n);
+    message[n] = (uint8_t)(check >> 8);
+    message[n + 1] = (uint8_t)(check & 255);
+}
+
+static void pack(uint8_t *field, size_t bytes, const uint16_t *words, size_t count, unsigned size)
+{
+    memset(field, 0, bytes);
+    for (size_t i = 0; i < count * size; i++)
+        if (words[i / size] >> (size - 1 - i % size) & 1)
+            field[i / 8] = (uint8_t)(field[i / 8] | 128u >> i % 8);
+}
+
+/* A header whose 28 bytes all differ from one another but where they say something. */
+static void head(uint8_t *header, unsigned id, unsigned size, unsigned count, unsigned version)
+{
+    for (unsigned i = 0; i < 28; i++)
+        header[i] = (uint8_t)(0x80 + 3 * i);
+    header[0] = (uint8_t)id;
+    header[1] = (uint8_t)size;
+    header[2] = (uint8_t)((count + 2) >> 8);
+    header[3] = (uint8_t)((count + 2) & 255);
+    header[7] = (uint8_t)version;
+}
+
+static void copies_of(uint8_t *block, const uint8_t *header)
+{
+    for (int k = 0; k < 3; k++) {
+        memcpy(block + 30 * k, header, 28);
+        seal(block + 30 * k, 28);
+    }
+}
+
+/* ---- room with something around it ---------------------------------------------------------------------------------------------- */
+
+/* Buffers in these, at odd addresses and, for words, at ones that are no multiple of 4. */
+static uint8_t bytes_here[30000], bytes_there[30000], was_bytes[30000];
+static uint16_t words_here[24000], words_there[24000], was_words[24000];
+
+static void stir_bytes(uint8_t *all, size_t n)
+{
+    for (size_t i = 0; i < n; i++)
+        all[i] = (uint8_t)(i * 7 + 3);
+}
+
+static void stir_words(uint16_t *all, size_t n)
+{
+    for (size_t i = 0; i < n; i++)
+        all[i] = (uint16_t)(i * 40503u + 77);
+}
+
+/* Places for answers, all ones before a call and with ones around them: what is not written, or only in part, shows. */
+static struct {
+    size_t count[5];
+    int64_t ms[3];
+    uint32_t time[9];
+    uint8_t byte[11], header[30], copies[5], holds[6], tag[10];
+} at;
+
+static void fresh(void) { memset(&at, 0xFF, sizeof at); }
+
+static int ones(const void *from, size_t n)
+{
+    const uint8_t *p = from;
+    while (n--)
+        if (*p++ != 0xFF)
+            return 0;
+    return 1;
+}
+
+static int zeros(const void *from, size_t n)
+{
+    const uint8_t *p = from;
+    while (n--)
+        if (*p++ != 0)
+            return 0;
+    return 1;
+}
+
+/* ---- the check word ------------------------------------------------------------------------------------------------------------- */
+
+static void check_word(void)
+{
+    IS(rahmisve_check_word((const uint8_t *)"123456789", 9) == 0xD64E);
+    IS(rahmisve_check_word((const uint8_t *)"123456789", 8) == crc((const uint8_t *)"12345678", 8));
+    IS(rahmisve_check_word(NULL, 0) == 0);
+    told("check_word: the vector, and nothing at NULL");
+    stir_bytes(bytes_here, 30000);
+    for (size_t n = 0; n < 300; n++)
+        IS(rahmisve_check_word(bytes_here + n % 16, n) == crc(bytes_here + n % 16, n));
+    IS(rahmisve_check_word(bytes_here + 1, 26260) == crc(bytes_here + 1, 26260));
+    static uint8_t longer[65536 + 9];
+    stir_bytes(longer, sizeof longer);
+    IS(rahmisve_check_word(longer, sizeof longer) == crc(longer, sizeof longer));
+    told("check_word: every length to 300, at every address, and long ones");
+}
+
+/* ---- fields --------------------------------------------------------------------------------------------------------------------- */
+
+static void words_of_a_field(void)
+{
+    static const uint8_t tens[] = {0x00, 0x40, 0x20, 0x0C, 0x04}, sixes[] = {0x04, 0x20, 0xC4};
+    static const uint16_t ws[] = {1, 2, 3, 4};
+    uint16_t room[6] = {9, 9, 9, 9, 9, 9};
+    IS(rahmisve_take_words(tens, 5, 10, 4, room + 1, 5) == 0);
+    IS(room[0] == 9 && memcmp(room + 1, ws, 8) == 0 && room[5] == 9);
+    IS(rahmisve_take_words(sixes, 3, 6, 3, room, 3) == 0 && memcmp(room, ws, 6) == 0 && room[3] == 3);
+    IS(rahmisve_take_words(NULL, 0, 10, 0, NULL, 0) == 0);
+    told("take_words: the printed examples, and none out of nothing");
+    uint16_t was[6];
+    memcpy(was, room, sizeof room);
+    IS(rahmisve_take_words(tens, 5, 0, 1, room, 6) == RAHMISVE_WRONG_SIZE);
+    IS(rahmisve_take_words(tens, 5, 17, 1, room, 6) == RAHMISVE_WRONG_SIZE);
+    IS(rahmisve_take_words(tens, 5, 256 + 10, 1, room, 6) == RAHMISVE_WRONG_SIZE);
+    IS(rahmisve_take_words(tens, 5, 10, 5, room, 6) == RAHMISVE_WRONG_LENGTH);
+    IS(rahmisve_take_words(tens, 5, 10, (size_t)-1, room, 6) == RAHMISVE_WRONG_LENGTH);
+    IS(rahmisve_take_words(NULL, 0, 1, 1, room, 6) == RAHMISVE_WRONG_LENGTH);
+    IS(rahmisve_take_words(tens, 5, 10, 4, room, 3) == RAHMISVE_SMALL_ROOM);
+    IS(rahmisve_take_words(tens, 5, 10, 4, NULL, 0) == RAHMISVE_SMALL_ROOM);
+    IS(memcmp(was, room, sizeof room) == 0);
+    told("take_words: its refusals leave the room");
+
+    uint8_t field[9];
+    memset(field, 0xEE, sizeof field);
+    IS(rahmisve_put_words(ws, 4, 10, field + 1, 7) == 0);
+    IS(field[0] == 0xEE && memcmp(field + 1, tens, 5) == 0 && field[6] == 0 && field[7] == 0 && field[8] == 0xEE);
+    IS(rahmisve_put_words(ws, 4, 6, field, 3) == 0 && memcmp(field, sixes, 3) == 0 && field[3] == tens[2]);
+    IS(rahmisve_put_words(NULL, 0, 6, NULL, 0) == 0);
+    IS(rahmisve_put_words(NULL, 0, 6, field, 2) == 0 && field[0] == 0 && field[1] == 0 && field[2] == sixes[2]);
+    told("put_words: the printed examples, zeros behind them, and none into nothing");
+    uint8_t kept[9];
+    memcpy(kept, field, sizeof field);
+    static const uint16_t large[] = {1, 1024};
+    IS(rahmisve_put_words(ws, 4, 0, field, 9) == RAHMISVE_WRONG_SIZE);
+    IS(rahmisve_put_words(ws, 4, 256 + 10, field, 9) == RAHMISVE_WRONG_SIZE);
+    IS(rahmisve_put_words(ws, 4, 10, field, 4) == RAHMISVE_SMALL_ROOM);
+    IS(rahmisve_put_words(ws, 4, 10, NULL, 0) == RAHMISVE_SMALL_ROOM);
+    IS(rahmisve_put_words(large, 2, 10, field, 9) == RAHMISVE_LARGE_WORD);
+    IS(memcmp(kept, field, sizeof field) == 0);
+    told("put_words: its refusals leave the field");
+}
+
+/* ---- the writer and the reader -------------------------------------------------------------------------------------------------- */
+
+static uint8_t header_here[28];
+
+/* A block of these words, made plain and slow. */
+static size_t block_of(uint8_t *block, const uint16_t *words, size_t count, unsigned size, size_t field)
+{
+    copies_of(block, header_here);
+    pack(block + 90, field, words, count, size);
+    seal(block + 90, field);
+    return 92 + field;
+}
+
+static void stir_to(uint16_t *words, size_t count, unsigned size)
+{
+    stir_words(words, count);
+    for (size_t i = 0; i < count; i++)
+        words[i] = (uint16_t)(words[i] & ((1u << size) - 1));
+}
+
+/* Writes and reads one block, with more room than it needs, and compares every byte and word. */
+static void there_and_back(unsigned id, unsigned size, size_t count, unsigned version, size_t field)
+{
+    size_t length = 92 + field;
+    head(header_here, id, size, (unsigned)count, version);
+    stir_to(words_here, count, size);
+    stir_bytes(bytes_here, 30000);
+    stir_bytes(bytes_there, 30000);
+    block_of(bytes_there + 1, words_here, count, size, field);
+    fresh();
+    IS(rahmisve_write(header_here, 28, words_here, count, bytes_here + 1, length + 11, &at.count[1]) == 0);
+    IS(at.count[1] == length && ones(&at.count[0], 8) && ones(&at.count[2], 8));
+    IS(memcmp(bytes_here, bytes_there, 30000) == 0);
+
+    stir_words(words_there, 24000);
+    memcpy(was_words, words_there, sizeof was_words);
+    memcpy(was_words + 1, words_here, 2 * count);
+    fresh();
+    IS(rahmisve_read(bytes_there + 1, length, words_there + 1, count + 7, at.header + 1, at.copies + 1, &at.count[1]) == 0);
+    IS(at.count[1] == count && ones(&at.count[0], 8) && ones(&at.count[2], 8));
+    IS(memcmp(at.header + 1, header_here, 28) == 0 && at.header[0] == 0xFF && at.header[29] == 0xFF);
+    IS(at.copies[1] == 1 && at.copies[2] == 1 && at.copies[3] == 1 && at.copies[0] == 0xFF && at.copies[4] == 0xFF);
+    IS(memcmp(words_there, was_words, sizeof was_words) == 0);
+    IS(memcmp(bytes_here, bytes_there, 30000) == 0);
+}
+
+static void good_blocks(void)
+{
+    there_and_back(240, 8, 8040, 0, 8040);
+    there_and_back(1, 10, 68, 1, 2680);
+    there_and_back(1, 10, 21008, 3, 26260);
+    there_and_back(2, 10, 15756, 2, 19696);
+    there_and_back(3, 10, 20, 2, 2680);
+    there_and_back(10, 10, 20960, 0, 26200);
+    there_and_back(11, 6, 10720, 1, 8040);
+    there_and_back(11, 8, 8040, 2, 8040);
+    there_and_back(11, 10, 6432, 3, 8040);
+    told("write and read: a block of each row, byte for byte and word for word, nothing behind it changed");
+}
+
+/* The writer refuses with `number`: no bytes are counted, and the room is as it was. */
+static void not_written(unsigned number, const uint8_t *header, size_t header_length, const uint16_t *words, size_t count, size_t room)
+{
+    stir_bytes(bytes_here, 30000);
+    memcpy(was_bytes, bytes_here, sizeof was_bytes);
+    fresh();
+    IS(rahmisve_write(header, header_length, words, count, room ? bytes_here + 3 : NULL, room, &at.count[1]) == number);
+    IS(at.count[1] == 0 && ones(&at.count[0], 8) && ones(&at.count[2], 8));
+    IS(memcmp(bytes_here, was_bytes, sizeof was_bytes) == 0);
+}
+
+static void refused_by_the_writer(void)
+{
+    uint8_t h[29];
+    memset(h, 0, sizeof h);
+    head(h, 1, 10, 68, 2);
+    stir_to(words_here, 69, 10);
+    not_written(RAHMISVE_NO_HEADER, NULL, 0, words_here, 68, 2772);
+    not_written(RAHMISVE_NO_HEADER, h, 27, words_here, 68, 2772);
+    not_written(RAHMISVE_NO_HEADER, h, 29, words_here, 68, 2772);
+    not_written(RAHMISVE_WRONG_LENGTH, h, 28, NULL, 0, 2772);
+    not_written(RAHMISVE_WRONG_LENGTH, h, 28, words_here, 67, 2772);
+    not_written(RAHMISVE_WRONG_LENGTH, h, 28, words_here, 69, 2772);
+    not_written(RAHMISVE_SMALL_ROOM, h, 28, words_here, 68, 2771);
+    not_written(RAHMISVE_SMALL_ROOM, h, 28, words_here, 68, 0);
+    words_here[67] = 1024;
+    not_written(RAHMISVE_LARGE_WORD, h, 28, words_here, 68, 2772);
+    head(h, 12, 10, 68, 2);
+    not_written(RAHMISVE_UNKNOWN_BLOCK, h, 28, words_here, 68, 2772);
+    head(h, 1, 10, 68, 4);
+    not_written(RAHMISVE_UNKNOWN_VERSION, h, 28, words_here, 68, 2772);
+    head(h, 1, 8, 68, 2);
+    not_written(RAHMISVE_WRONG_SIZE, h, 28, words_here, 68, 2772);
+    head(h, 1, 10, 64, 2);
+    not_written(RAHMISVE_WRONG_COUNT, h, 28, words_here, 64, 2772);
+    told("write: its refusals leave the room and count no bytes");
+}
+
+/* Reads the block at bytes_there + 1, and room for `room` words. */
+static unsigned read_there(size_t length, size_t room)
+{
+    stir_words(words_there, 24000);
+    memcpy(was_words, words_there, sizeof was_words);
+    fresh();
+    return rahmisve_read(length ? bytes_there + 1 : NULL, length, room ? words_there + 1 : NULL, room, at.header + 1, at.copies + 1, &at.count[1]);
+}
+
+static void not_read(unsigned number, size_t length, size_t room)
+{
+    memcpy(was_bytes, bytes_there, sizeof was_bytes);
+    IS(read_there(length, room) == number);
+    IS(at.count[1] == 0 && ones(&at.count[0], 8) && ones(&at.count[2], 8));
+    IS(zeros(at.header + 1, 28) && at.header[0] == 0xFF && at.header[29] == 0xFF);
+    IS(zeros(at.copies + 1, 3) && at.copies[0] == 0xFF && at.copies[4] == 0xFF);
+    IS(memcmp(words_there, was_words, sizeof was_words) == 0);
+    IS(memcmp(bytes_there, was_bytes, sizeof was_bytes) == 0);
+}
+
+/* A block 1 of 68 words at bytes_there + 1. */
+static uint8_t *a_block(void)
+{
+    head(header_here, 1, 10, 68, 2);
+    stir_to(words_here, 68, 10);
+    stir_bytes(bytes_there, 30000);
+    block_of(bytes_there + 1, words_here, 68, 10, 2680);
+    return bytes_there + 1;
+}
+
+static void copies_that_pass(void)
+{
+    for (unsigned damaged = 0; damaged < 7; damaged++) {
+        uint8_t *block = a_block();
+        for (unsigned k = 0; k < 3; k++)
+            if (damaged >> k & 1)
+                block[30 * k + 5 + k] ^= 0x10;
+        IS(read_there(2772, 68) == 0);
+        for (unsigned k = 0; k < 3; k++)
+            IS(at.copies[k + 1] == (damaged >> k & 1 ? 0 : 1));
+        IS(at.count[1] == 68 && memcmp(at.header + 1, header_here, 28) == 0 && memcmp(words_there + 1, words_here, 136) == 0);
+    }
+    told("read: each set of header copies that pass, in its order");
+}
+
+static void refused_by_the_reader(void)
+{
+    uint8_t *block = a_block();
+    not_read(RAHMISVE_NO_HEADER, 0, 0);
+    not_read(RAHMISVE_NO_HEADER, 89, 68);
+    not_read(RAHMISVE_WRONG_LENGTH, 90, 68);
+    not_read(RAHMISVE_WRONG_LENGTH, 2771, 68);
+    not_read(RAHMISVE_WRONG_LENGTH, 2773, 68);
+    not_read(RAHMISVE_SMALL_ROOM, 2772, 67);
+    not_read(RAHMISVE_SMALL_ROOM, 2772, 0);
+    block[90 + 2679] ^= 1;
+    not_read(RAHMISVE_CHECK_DISAGREES, 2772, 68);
+    seal(block + 90, 2680);
+    not_read(RAHMISVE_FILL_NOT_ZERO, 2772, 68);
+    block = a_block();
+    block[31] ^= 1;
+    seal(block + 30, 28);
+    not_read(RAHMISVE_COPIES_DIFFER, 2772, 68);
+    block = a_block();
+    block[29] ^= 1;
+    block[59] ^= 1;
+    block[89] ^= 1;
+    not_read(RAHMISVE_NO_COPY_PASSES, 2772, 68);
+    static const unsigned wrong[][5] = {
+        {RAHMISVE_UNKNOWN_BLOCK, 0, 10, 68, 2},   {RAHMISVE_UNKNOWN_BLOCK, 15, 10, 68, 2}, {RAHMISVE_UNKNOWN_VERSION, 1, 10, 68, 4},
+        {RAHMISVE_WRONG_SIZE, 1, 8, 68, 2},       {RAHMISVE_WRONG_COUNT, 1, 10, 64, 2},    {RAHMISVE_WRONG_COUNT, 1, 10, 21012, 2},
+        {RAHMISVE_WRONG_COUNT, 1, 10, 65535, 2},
+    };
+    for (size_t i = 0; i < sizeof wrong / sizeof *wrong; i++) {
+        block = a_block();
+        head(header_here, wrong[i][1], wrong[i][2], wrong[i][3], wrong[i][4]);
+        copies_of(block, header_here);
+        not_read(wrong[i][0], 2772, 68);
+    }
+    told("read: its refusals leave the room and give zeros");
+}
+
+/* ---- what a header asks for ----------------------------------------------------------------------------------------------------- */
+
+static void planned(const uint8_t *header, size_t length, unsigned number, unsigned block, unsigned version, unsigned size, unsigned records, size_t words, size_t field)
+{
+    fresh();
+    IS(rahmisve_plan(header, length, &at.byte[1], &at.byte[3], &at.byte[5], &at.byte[7], &at.count[1], &at.count[3]) == number);
+    IS(at.byte[1] == block && at.byte[3] == version && at.byte[5] == size && at.byte[7] == records);
+    IS(at.count[1] == words && at.count[3] == field);
+    for (int i = 0; i < 9; i += 2)
+        IS(at.byte[i] == 0xFF);
+    IS(ones(&at.count[0], 8) && ones(&at.count[2], 8) && ones(&at.count[4], 8));
+}
+
+static void plans(void)
+{
+    uint8_t h[29];
+    memset(h, 0, sizeof h);
+    head(h, 240, 8, 8040, 3);
+    planned(h, 28, 0, 0, 3, 8, 0, 8040, 8040);
+    head(h, 1, 10, 21008, 2);
+    planned(h, 28, 0, 1, 2, 10, 4, 21008, 26260);
+    head(h, 2, 10, 54, 1);
+    planned(h, 28, 0, 2, 1, 10, 3, 54, 2680);
+    head(h, 7, 10, 20, 3);
+    planned(h, 28, 0, 7, 3, 10, 1, 20, 2680);
+    head(h, 11, 6, 10720, 0);
+    planned(h, 28, 0, 11, 0, 6, 0, 10720, 8040);
+    told("plan: each number in its place");
+    planned(NULL, 0, RAHMISVE_NO_HEADER, 0, 0, 0, 0, 0, 0);
+    planned(h, 27, RAHMISVE_NO_HEADER, 0, 0, 0, 0, 0, 0);
+    planned(h, 29, RAHMISVE_NO_HEADER, 0, 0, 0, 0, 0, 0);
+    head(h, 255, 6, 10720, 0);
+    planned(h, 28, RAHMISVE_UNKNOWN_BLOCK, 0, 0, 0, 0, 0, 0);
+    head(h, 11, 6, 10720, 255);
+    planned(h, 28, RAHMISVE_UNKNOWN_VERSION, 0, 0, 0, 0, 0, 0);
+    head(h, 11, 7, 10720, 0);
+    planned(h, 28, RAHMISVE_WRONG_SIZE, 0, 0, 0, 0, 0, 0);
+    head(h, 11, 8, 10720, 0);
+    planned(h, 28, RAHMISVE_WRONG_COUNT, 0, 0, 0, 0, 0, 0);
+    told("plan: its refusals give zeros");
+}
+
+/* ---- records and placement ------------------------------------------------------------------------------------------------------ */
+
+static void located(const uint8_t *header, size_t length, size_t words, uint32_t record, unsigned number, size_t start, size_t part)
+{
+    fresh();
+    IS(rahmisve_record(header, length, words, record, &at.count[1], &at.count[3]) == number);
+    IS(at.count[1] == start && at.count[3] == part);
+    IS(ones(&at.count[0], 8) && ones(&at.count[2], 8) && ones(&at.count[4], 8));
+}
+
+static void record(void)
+{
+    uint8_t h[28];
+    head(h, 1, 10, 21008, 2);
+    for (uint32_t k = 1; k <= 4; k++)
+        located(h, 28, 21008, k, 0, (k - 1) * 5252, 5252);
+    located(h, 28, (size_t)1 << 32, 2, 0, 5252, 5252);
+    head(h, 2, 10, 54, 2);
+    located(h, 28, 60, 3, 0, 36, 18);
+    told("record: where each lies, with more words lent than a number of 32 bits holds");
+    located(h, 28, 53, 3, RAHMISVE_SMALL_ROOM, 0, 0);
+    located(h, 28, 0, 3, RAHMISVE_SMALL_ROOM, 0, 0);
+    located(h, 28, 54, 0, RAHMISVE_NO_RECORD, 0, 0);
+    located(h, 28, 54, 4, RAHMISVE_NO_RECORD, 0, 0);
+    located(h, 28, 54, 256 + 1, RAHMISVE_NO_RECORD, 0, 0);
+    located(h, 28, 54, 65536 + 1, RAHMISVE_NO_RECORD, 0, 0);
+    located(h, 28, 54, UINT32_MAX, RAHMISVE_NO_RECORD, 0, 0);
+    located(h, 27, 54, 1, RAHMISVE_NO_HEADER, 0, 0);
+    located(NULL, 0, 54, 1, RAHMISVE_NO_HEADER, 0, 0);
+    head(h, 240, 8, 8040, 2);
+    located(h, 28, 8040, 1, RAHMISVE_NO_RECORD, 0, 0);
+    head(h, 2, 10, 55, 2);
+    located(h, 28, 55, 1, RAHMISVE_WRONG_COUNT, 0, 0);
+    told("record: its refusals give an empty part");
+}
+
+static void placed(uint32_t block, uint32_t version, uint32_t k, unsigned number, unsigned channel, unsigned detector)
+{
+    fresh();
+    IS(rahmisve_place(block, version, k, &at.byte[1], &at.byte[3]) == number);
+    IS(at.byte[1] == channel && at.byte[3] == detector && at.byte[0] == 0xFF && at.byte[2] == 0xFF && at.byte[4] == 0xFF);
+}
+
+static void place(void)
+{
+    placed(1, 0, 3, 0, 5, 1);
+    placed(1, 1, 2, 0, 4, 2);
+    placed(1, 2, 4, 0, 3, 2);
+    placed(2, 0, 3, 0, 3, 1);
+    placed(2, 3, 1, 0, 4, 1);
+    placed(2, 2, 3, 0, 6, 1);
+    placed(3, 0, 1, 0, 1, 5);
+    placed(10, 3, 1, 0, 1, 4);
+    told("place: channel and detector, by block, version and record");
+    placed(12, 9, 9, RAHMISVE_UNKNOWN_BLOCK, 0, 0);
+    placed(256 + 1, 0, 1, RAHMISVE_UNKNOWN_BLOCK, 0, 0);
+    placed(65536 + 1, 0, 1, RAHMISVE_UNKNOWN_BLOCK, 0, 0);
+    placed(1, 4, 9, RAHMISVE_UNKNOWN_VERSION, 0, 0);
+    placed(1, 256, 1, RAHMISVE_UNKNOWN_VERSION, 0, 0);
+    placed(1, 65536, 1, RAHMISVE_UNKNOWN_VERSION, 0, 0);
+    placed(1, 0, 0, RAHMISVE_NO_RECORD, 0, 0);
+    placed(1, 0, 5, RAHMISVE_NO_RECORD, 0, 0);
+    placed(1, 0, 256 + 1, RAHMISVE_NO_RECORD, 0, 0);
+    placed(1, 0, UINT32_MAX, RAHMISVE_NO_RECORD, 0, 0);
+    placed(0, 0, 1, RAHMISVE_NO_RECORD, 0, 0);
+    placed(11, 0, 1, RAHMISVE_NO_RECORD, 0, 0);
+    told("place: its refusals, of numbers too large for a byte too");
+}
+
+/* ---- parity --------------------------------------------------------------------------------------------------------------------- */
+
+typedef uint8_t (*layout)(const uint16_t *, size_t, uint8_t *);
+
+static uint8_t imager(const uint16_t *words, size_t n, uint8_t *holds) { return rahmisve_parity_imager(words, n, holds); }
+static uint8_t sounder(const uint16_t *words, size_t n, uint8_t *holds) { return rahmisve_parity_sounder(words, n, holds); }
+
+/* Puts a word of section k out of order, for each k, and then the parity word behind it. */
+static void sections(layout judge, int count, const int table[][3], const char *good_line, const char *refused_line)
+{
+    uint16_t *words = words_here + 1;
+    for (int broken = 0; broken <= 2 * count; broken++) {
+        stir_to(words_here, 24000, 8);
+        for (int k = 0; k < count; k++) {
+            uint16_t x = 0;
+            for (int i = table[k][0]; i <= table[k][1]; i++)
+                x = (uint16_t)(x ^ words[i - 1]);
+            words[table[k][2] - 1] = x;
+        }
+        if (broken > 0)
+            words[table[(broken - 1) / 2][broken % 2 ? 1 : 2] - 1] ^= 0x40;
+        fresh();
+        IS(judge(words, 8040, at.holds + 1) == 0);
+        for (int k = 0; k < count; k++)
+            IS(at.holds[k + 1] == (broken > 0 && (broken - 1) / 2 == k ? 0 : 1));
+        IS(at.holds[0] == 0xFF && at.holds[count + 1] == 0xFF);
+    }
+    told(good_line);
+    memcpy(was_words, words_here, sizeof was_words);
+    for (size_t n = 8039; n <= 8041; n += 2) {
+        fresh();
+        IS(judge(words, n, at.holds + 1) == RAHMISVE_WRONG_LENGTH && zeros(at.holds + 1, (size_t)count) && at.holds[count + 1] == 0xFF);
+    }
+    fresh();
+    IS(judge(NULL, 0, at.holds + 1) == RAHMISVE_WRONG_LENGTH && zeros(at.holds + 1, (size_t)count));
+    IS(memcmp(was_words, words_here, sizeof was_words) == 0);
+    words[8039] = 256;
+    fresh();
+    IS(judge(words, 8040, at.holds + 1) == RAHMISVE_LARGE_WORD && zeros(at.holds + 1, (size_t)count) && at.holds[count + 1] == 0xFF);
+    told(refused_line);
+}
+
+static void parity(void)
+{
+    static const int of_imager[][3] = {{1, 221, 222}, {223, 701, 702}, {703, 1181, 1182}, {1183, 7902, 7906}};
+    static const int of_sounder[][3] = {{1, 221, 222}, {223, 2926, 2927}};
+    sections(imager, 4, of_imager, "parity_imager: each section by itself", "parity_imager: its refusals give zeros");
+    sections(sounder, 2, of_sounder, "parity_sounder: each section by itself", "parity_sounder: its refusals give zeros");
+}
+
+/* ---- tags ----------------------------------------------------------------------------------------------------------------------- */
+
+static const uint8_t day_60[9] = {0x20, 0x08, 0x06, 0x02, 0x35, 0x95, 0x99, 0x99, 0x00};
+static const uint8_t day_61[8] = {0x20, 0x08, 0x06, 0x10, 0x00, 0x00, 0x00, 0x00};
+static const uint8_t marked_tag[8] = {0x19, 0x87, 0xA3, 0x42, 0x14, 0x35, 0x67, 0x89};
+static const uint32_t marked_time[7] = {1987, 234, 21, 43, 56, 789, 1};
+
+static void read_tag(void)
+{
+    static const uint32_t time_60[7] = {2008, 60, 23, 59, 59, 999, 0};
+    fresh();
+    IS(rahmisve_read_tag(marked_tag, 8, at.time + 1) == 0 && memcmp(at.time + 1, marked_time, 28) == 0);
+    IS(ones(at.time, 4) && ones(at.time + 8, 4));
+    IS(rahmisve_read_tag(day_60, 8, at.time + 1) == 0 && memcmp(at.time + 1, time_60, 28) == 0);
+    told("read_tag: seven numbers, each in its place");
+    uint8_t bad[8];
+    memcpy(bad, day_60, 8);
+    bad[7] = 0x9A;
+    static const size_t lengths[] = {7, 9, 0};
+    for (int i = 0; i < 3; i++) {
+        fresh();
+        IS(rahmisve_read_tag(lengths[i] ? day_60 : NULL, lengths[i], at.time + 1) == RAHMISVE_BAD_TAG);
+        IS(zeros(at.time + 1, 28) && ones(at.time, 4) && ones(at.time + 8, 4));
+    }
+    fresh();
+    IS(rahmisve_read_tag(bad, 8, at.time + 1) == RAHMISVE_BAD_TAG && zeros(at.time + 1, 28));
+    told("read_tag: its refusal gives zeros");
+}
+
+static void write_tag(void)
+{
+    fresh();
+    IS(rahmisve_write_tag(marked_time, at.tag + 1) == 0 && memcmp(at.tag + 1, marked_tag, 8) == 0);
+    IS(at.tag[0] == 0xFF && at.tag[9] == 0xFF);
+    static const uint32_t marks[] = {2, 256, 65536, 0x80000000u};
+    for (int i = 0; i < 4; i++) {
+        uint32_t t[7];
+        memcpy(t, marked_time, sizeof t);
+        t[RAHMISVE_FLYWHEEL] = marks[i];
+        fresh();
+        IS(rahmisve_write_tag(t, at.tag + 1) == 0 && memcmp(at.tag + 1, marked_tag, 8) == 0);
+    }
+    told("write_tag: seven numbers, each in its place, and any number is a mark but 0");
+    static const uint32_t over[6] = {10000, 366, 24, 60, 60, 1000};
+    for (int place = 0; place < 6; place++)
+        for (int way = 0; way < 4; way++) {
+            uint32_t t[7];
+            memcpy(t, marked_time, sizeof t);
+            t[place] = way == 0 ? over[place] : way == 1 ? t[place] + 256u * 256u : way == 2 ? t[place] | 0x80000000u : 0xFFFFFFFFu;
+            fresh();
+            IS(rahmisve_write_tag(t, at.tag + 1) == RAHMISVE_BAD_TAG && zeros(at.tag + 1, 8) && at.tag[0] == 0xFF && at.tag[9] == 0xFF);
+            if (place >= 2 && place <= 4) {
+                t[place] = marked_time[place] + 256;
+                IS(rahmisve_write_tag(t, at.tag + 1) == RAHMISVE_BAD_TAG);
+            }
+        }
+    told("write_tag: its refusals, of numbers too large for any tag too, give zeros");
+}
+
+static void elapsed(void)
+{
+    static const uint8_t first[8] = {0x00, 0x00, 0x00, 0x10, 0x00, 0x00, 0x00, 0x00};
+    static const uint8_t last[8] = {0x99, 0x99, 0x36, 0x52, 0x35, 0x95, 0x99, 0x99};
+    fresh();
+    IS(rahmisve_elapsed(day_60, 8, day_61, 8, &at.ms[1]) == 0 && at.ms[1] == 1);
+    IS(at.ms[0] == -1 && at.ms[2] == -1);
+    at.ms[1] = 0;
+    IS(rahmisve_elapsed(day_61, 8, day_60, 8, &at.ms[1]) == 0 && at.ms[1] == -1);
+    IS(rahmisve_elapsed(day_60, 8, day_60, 8, &at.ms[1]) == 0 && at.ms[1] == 0);
+    IS(rahmisve_elapsed(first, 8, last, 8, &at.ms[1]) == 0 && at.ms[1] == INT64_C(3652425) * 86400000 - 1);
+    IS(rahmisve_elapsed(last, 8, first, 8, &at.ms[1]) == 0 && at.ms[1] == 1 - INT64_C(3652425) * 86400000);
+    told("elapsed: forward, backward, none, and over ten thousand years");
+    static const size_t lengths[][2] = {{7, 8}, {8, 7}, {9, 8}, {0, 8}, {8, 0}, {0, 0}};
+    for (int i = 0; i < 6; i++) {
+        fresh();
+        IS(rahmisve_elapsed(lengths[i][0] ? day_60 : NULL, lengths[i][0], lengths[i][1] ? day_61 : NULL, lengths[i][1], &at.ms[1]) == RAHMISVE_BAD_TAG);
+        IS(at.ms[0] == -1 && at.ms[1] == 0 && at.ms[2] == -1);
+    }
+    told("elapsed: its refusals give zero");
+}
+
+/* ---- the watch ------------------------------------------------------------------------------------------------------------------ */
+
+static uint32_t watch_room[12], *const watch = watch_room + 1;
+
+static unsigned offered(uint32_t block, const uint8_t *tag, size_t length)
+{
+    fresh();
+    unsigned number = rahmisve_watch_offer(watch, block, tag, length, &at.byte[1]);
+    IS(at.byte[0] == 0xFF && at.byte[2] == 0xFF);
+    IS(watch_room[0] == 0xABCDEF01 && watch_room[11] == 0xABCDEF02);
+    return number;
+}
+
+/* An accepted offer, and what the watch holds then. */
+static void goes(uint32_t block, const uint8_t *tag, unsigned verdict, uint32_t open, uint32_t expected, uint32_t limit)
+{
+    uint32_t time[7] = {0, 0, 0, 0, 0, 0, 0};
+    if (open)
+        IS(rahmisve_read_tag(tag, 8, time) == 0);
+    IS(offered(block, tag, 8) == 0 && at.byte[1] == verdict);
+    IS(watch[0] == open && watch[1] == expected && watch[9] == limit && memcmp(watch + 2, time, 28) == 0);
+}
+
+/* An offer that leaves the watch as it is. */
+static void stays(unsigned number, unsigned verdict, uint32_t block, const uint8_t *tag, size_t length)
+{
+    uint32_t was[10];
+    memcpy(was, watch, sizeof was);
+    IS(offered(block, tag, length) == number && at.byte[1] == verdict);
+    IS(memcmp(was, watch, sizeof was) == 0);
+}
+
+static void lent(uint32_t open, uint32_t expected, const uint32_t *time, uint32_t limit)
+{
+    watch[0] = open;
+    watch[1] = expected;
+    memcpy(watch + 2, time, 28);
+    watch[9] = limit;
+}
+
+static void watch_begin(void)
+{
+    watch_room[0] = 0xABCDEF01;
+    watch_room[11] = 0xABCDEF02;
+    memset(watch, 0xFF, 40);
+    IS(rahmisve_watch_begin(1000000, watch) == 0);
+    IS(zeros(watch, 36) && watch[9] == 1000000);
+    IS(rahmisve_watch_begin(3600000, watch) == 0 && zeros(watch, 36) && watch[9] == 3600000);
+    told("watch_begin: idle, with its limit");
+    memset(watch, 0xEE, 40);
+    IS(rahmisve_watch_begin(3600001, watch) == RAHMISVE_LONG_LIMIT && watch[0] == 0xEEEEEEEE && memcmp(watch, watch + 1, 36) == 0);
+    IS(rahmisve_watch_begin(UINT32_MAX, watch) == RAHMISVE_LONG_LIMIT && watch[0] == 0xEEEEEEEE && memcmp(watch, watch + 1, 36) == 0);
+    IS(watch_room[0] == 0xABCDEF01 && watch_room[11] == 0xABCDEF02);
+    told("watch_begin: its refusal leaves the record");
+}
+
+static void watch_offer(void)
+{
+    static const uint8_t later[8] = {0x20, 0x08, 0x06, 0x10, 0x00, 0x00, 0x10, 0x00};
+    IS(rahmisve_watch_begin(500, watch) == 0);
+    stays(0, RAHMISVE_STRAY, 5, day_60, 8);
+    goes(0, day_60, RAHMISVE_OPENED, 1, 1, 500);
+    for (uint32_t block = 1; block <= 9; block++)
+        goes(block, block < 5 ? day_60 : day_61, RAHMISVE_KEPT, 1, block + 1, 500);
+    goes(10, day_61, RAHMISVE_COMPLETE, 0, 0, 500);
+    told("watch_offer: a whole scan, the ten numbers after each offer");
+    goes(0, day_60, RAHMISVE_OPENED, 1, 1, 500);
+    goes(2, day_61, RAHMISVE_BROKEN, 0, 0, 500);
+    goes(0, day_61, RAHMISVE_OPENED, 1, 1, 500);
+    goes(1, day_60, RAHMISVE_CLOCK_BACK, 0, 0, 500);
+    goes(0, day_61, RAHMISVE_OPENED, 1, 1, 500);
+    goes(1, later, RAHMISVE_LATE, 0, 0, 500);
+    goes(0, day_61, RAHMISVE_OPENED, 1, 1, 500);
+    goes(0, day_60, RAHMISVE_CLOCK_BACK, 1, 1, 500);
+    goes(0, marked_tag, RAHMISVE_CLOCK_BACK, 1, 1, 500);
+    goes(11, marked_tag, RAHMISVE_BROKEN, 0, 0, 500);
+    told("watch_offer: each closing, and a block 0 that closes and opens");
+
+    static const uint32_t odd[7] = {1, 2, 3, 4, 5, 6, 7};
+    static const uint32_t bad_hour[7] = {2008, 60, 256 + 23, 59, 59, 999, 0};
+    static const uint32_t bad_year[7] = {65536 + 2008, 60, 23, 59, 59, 999, 0};
+    static const uint32_t good_time[7] = {2008, 60, 23, 59, 59, 999, 77};
+    lent(0, 99, odd, 500);
+    stays(0, RAHMISVE_STRAY, 5, day_60, 8);
+    goes(0, day_60, RAHMISVE_OPENED, 1, 1, 500);
+    lent(256, 3, good_time, 500);
+    goes(3, day_61, RAHMISVE_KEPT, 1, 4, 500);
+    lent(0x80000000u, 10, good_time, 500);
+    goes(10, day_61, RAHMISVE_COMPLETE, 0, 0, 500);
+    told("watch_offer: a lent record with odd numbers in it");
+    lent(256, 3, good_time, 500);
+    stays(RAHMISVE_UNKNOWN_BLOCK, 0, 12, day_61, 8);
+    stays(RAHMISVE_UNKNOWN_BLOCK, 0, 256 + 3, day_61, 8);
+    stays(RAHMISVE_UNKNOWN_BLOCK, 0, 65536 + 3, NULL, 0);
+    stays(RAHMISVE_BAD_TAG, 0, 3, day_60, 7);
+    stays(RAHMISVE_BAD_TAG, 0, 3, day_60, 9);
+    stays(RAHMISVE_BAD_TAG, 0, 3, NULL, 0);
+    lent(1, 256 + 3, good_time, 500);
+    stays(RAHMISVE_NO_RECORD, 0, 3, day_61, 8);
+    lent(1, 0, good_time, 500);
+    stays(RAHMISVE_NO_RECORD, 0, 3, day_61, 8);
+    lent(7, 11, bad_hour, 3600001);
+    stays(RAHMISVE_LONG_LIMIT, 0, 99, day_61, 8);
+    watch[9] = 3600000;
+    stays(RAHMISVE_NO_RECORD, 0, 99, day_61, 8);
+    watch[1] = 10;
+    stays(RAHMISVE_BAD_TAG, 0, 99, day_61, 8);
+    lent(7, 10, bad_year, 500);
+    stays(RAHMISVE_BAD_TAG, 0, 10, day_61, 8);
+    lent(0, 0, odd, UINT32_MAX);
+    stays(RAHMISVE_LONG_LIMIT, 0, 0, day_61, 8);
+    told("watch_offer: its refusals leave the record to the bit");
+}
+
+int main(void)
+{
+    good = 1;
+    check_word();
+    words_of_a_field();
+    good_blocks();
+    refused_by_the_writer();
+    copies_that_pass();
+    refused_by_the_reader();
+    plans();
+    record();
+    place();
+    parity();
+    read_tag();
+    write_tag();
+    elapsed();
+    watch_begin();
+    watch_offer();
+    return !all_good;
+}
