@@ -227,7 +227,7 @@ static void good_blocks(void)
 {
     there_and_back(240, 8, 8040, 0, 8040);
     there_and_back(1, 10, 68, 1, 2680);
-    there_and_back(1, 10, 21008, 3, 26260);
+    there_and_back(1, 10, RAHMISVE_MOST_WORDS, 3, RAHMISVE_MOST_BYTES - RAHMISVE_AROUND);
     there_and_back(2, 10, 15756, 2, 19696);
     there_and_back(3, 10, 20, 2, 2680);
     there_and_back(10, 10, 20960, 0, 26200);
@@ -345,7 +345,7 @@ static void refused_by_the_reader(void)
     not_read(RAHMISVE_NO_COPY_PASSES, 2772, 68);
     static const unsigned wrong[][5] = {
         {RAHMISVE_UNKNOWN_BLOCK, 0, 10, 68, 2},   {RAHMISVE_UNKNOWN_BLOCK, 15, 10, 68, 2}, {RAHMISVE_UNKNOWN_VERSION, 1, 10, 68, 4},
-        {RAHMISVE_WRONG_SIZE, 1, 8, 68, 2},       {RAHMISVE_WRONG_COUNT, 1, 10, 64, 2},    {RAHMISVE_WRONG_COUNT, 1, 10, 21012, 2},
+        {RAHMISVE_WRONG_SIZE, 1, 8, 68, 2},       {RAHMISVE_WRONG_COUNT, 1, 10, 64, 2},    {RAHMISVE_WRONG_COUNT, 1, 10, RAHMISVE_MOST_WORDS + 4, 2},
         {RAHMISVE_WRONG_COUNT, 1, 10, 65535, 2},
     };
     for (size_t i = 0; i < sizeof wrong / sizeof *wrong; i++) {
@@ -490,7 +490,7 @@ static void sections(layout judge, int count, const int table[][3], const char *
         if (broken > 0)
             words[table[(broken - 1) / 2][broken % 2 ? 1 : 2] - 1] ^= 0x40;
         fresh();
-        IS(judge(words, 8040, at.holds + 1) == 0);
+        IS(judge(words, RAHMISVE_PARITY_WORDS, at.holds + 1) == 0);
         for (int k = 0; k < count; k++)
             IS(at.holds[k + 1] == (broken > 0 && (broken - 1) / 2 == k ? 0 : 1));
         IS(at.holds[0] == 0xFF && at.holds[count + 1] == 0xFF);
@@ -646,10 +646,10 @@ static void watch_begin(void)
     memset(watch, 0xFF, 40);
     IS(rahmisve_watch_begin(1000000, watch) == 0);
     IS(zeros(watch, 36) && watch[9] == 1000000);
-    IS(rahmisve_watch_begin(3600000, watch) == 0 && zeros(watch, 36) && watch[9] == 3600000);
+    IS(rahmisve_watch_begin(RAHMISVE_LONGEST_WAIT, watch) == 0 && zeros(watch, 36) && watch[RAHMISVE_LIMIT] == 3600000);
     told("watch_begin: idle, with its limit");
     memset(watch, 0xEE, 40);
-    IS(rahmisve_watch_begin(3600001, watch) == RAHMISVE_LONG_LIMIT && watch[0] == 0xEEEEEEEE && memcmp(watch, watch + 1, 36) == 0);
+    IS(rahmisve_watch_begin(RAHMISVE_LONGEST_WAIT + 1, watch) == RAHMISVE_LONG_LIMIT && watch[0] == 0xEEEEEEEE && memcmp(watch, watch + 1, 36) == 0);
     IS(rahmisve_watch_begin(UINT32_MAX, watch) == RAHMISVE_LONG_LIMIT && watch[0] == 0xEEEEEEEE && memcmp(watch, watch + 1, 36) == 0);
     IS(watch_room[0] == 0xABCDEF01 && watch_room[11] == 0xABCDEF02);
     told("watch_begin: its refusal leaves the record");
