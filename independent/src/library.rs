@@ -3,7 +3,7 @@
 
 use crate::tags::Tag;
 use crate::watch::{Verdict, Watch};
-use crate::{block, check, parity, placement, recording, tags, watch};
+use crate::{block, check, parity, placement, recording, tags, watch, words};
 
 #[derive(Clone, Debug, PartialEq, Eq)]
 pub struct ReadAnswer {
@@ -21,6 +21,8 @@ impl ReadAnswer {
 
 pub trait Library {
     fn check_word(&self, bytes: &[u8]) -> u16;
+    fn take_words(&self, field: &[u8], size: u32, count: usize, room: &mut [u16]) -> u8;
+    fn put_words(&self, words: &[u16], size: u32, field: &mut [u8]) -> u8;
     fn read(&self, block: &[u8], room: &mut [u16]) -> ReadAnswer;
     /// Number, bytes written.
     fn write(&self, header: &[u8], words: &[u16], dest: &mut [u8]) -> (u8, usize);
@@ -43,6 +45,12 @@ pub struct Model;
 impl Library for Model {
     fn check_word(&self, bytes: &[u8]) -> u16 {
         check::check_word(bytes)
+    }
+    fn take_words(&self, field: &[u8], size: u32, count: usize, room: &mut [u16]) -> u8 {
+        words::take(field, size, count, room)
+    }
+    fn put_words(&self, words: &[u16], size: u32, field: &mut [u8]) -> u8 {
+        words::put(words, size, field)
     }
     fn read(&self, block: &[u8], room: &mut [u16]) -> ReadAnswer {
         block::read(block, room)

@@ -5,7 +5,7 @@
 
 use std::process::ExitCode;
 
-use independent::compare::{compare, compare_headers, compare_placements, Tally};
+use independent::compare::{compare, compare_headers, compare_placements, compare_words, Tally};
 use independent::document;
 use independent::library::Library;
 use independent::wrong::{Wrong, FAULTS};
@@ -48,9 +48,12 @@ fn main() -> ExitCode {
     let outcome = compare(&*library, seed, 0, count, &mut tally);
     print!("{}", tally.lines());
     let outcome = outcome.and_then(|()| {
+        let words = compare_words(&*library, seed, count)?;
         let placements = compare_placements(&*library)?;
         let headers = compare_headers(&*library)?;
-        Ok(format!("{count} cases of seed {seed}, {placements} placements and {headers} headers agree"))
+        Ok(format!(
+            "{count} cases of seed {seed}, {words} fields and words, {placements} placements and {headers} headers agree"
+        ))
     });
     match outcome {
         Ok(text) => println!("{text}"),

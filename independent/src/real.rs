@@ -8,6 +8,12 @@ use crate::watch::{Verdict, Watch};
 
 extern "C" {
     fn rahmisve_check_word(message: *const u8, length: usize) -> u16;
+    fn rahmisve_take_words(
+        field: *const u8, field_length: usize, size: u32, count: usize, room: *mut u16, room_length: usize,
+    ) -> u8;
+    fn rahmisve_put_words(
+        words: *const u16, words_length: usize, size: u32, field: *mut u8, field_length: usize,
+    ) -> u8;
     fn rahmisve_read(
         block: *const u8, block_length: usize, room: *mut u16, room_length: usize,
         header: *mut [u8; 28], copies: *mut [u8; 3], words: *mut usize,
@@ -75,6 +81,12 @@ pub struct Real;
 impl Library for Real {
     fn check_word(&self, bytes: &[u8]) -> u16 {
         unsafe { rahmisve_check_word(bytes.as_ptr(), bytes.len()) }
+    }
+    fn take_words(&self, field: &[u8], size: u32, count: usize, room: &mut [u16]) -> u8 {
+        unsafe { rahmisve_take_words(field.as_ptr(), field.len(), size, count, room.as_mut_ptr(), room.len()) }
+    }
+    fn put_words(&self, words: &[u16], size: u32, field: &mut [u8]) -> u8 {
+        unsafe { rahmisve_put_words(words.as_ptr(), words.len(), size, field.as_mut_ptr(), field.len()) }
     }
     fn read(&self, block: &[u8], room: &mut [u16]) -> ReadAnswer {
         // what is given back is filled before, so that a place left unwritten shows

@@ -35,6 +35,41 @@ pub fn fill_is_zero(field: &[u8], data_bits: usize) -> bool {
     (data_bits..8 * field.len()).all(|place| !bit(field, place))
 }
 
+/// Whether `count` words have more bits than a field of `bytes` bytes.
+fn too_many(count: usize, size: u32, bytes: usize) -> bool {
+    count as u128 * u128::from(size) > 8 * bytes as u128
+}
+
+/// The first words of a field to the front of the room; refusals 6, 8, 9.
+pub fn take(field: &[u8], size: u32, count: usize, room: &mut [u16]) -> u8 {
+    if !(1..=16).contains(&size) {
+        return 6;
+    }
+    if too_many(count, size, field.len()) {
+        return 8;
+    }
+    if count > room.len() {
+        return 9;
+    }
+    room[..count].copy_from_slice(&unpack(field, size as usize, count));
+    0
+}
+
+/// Words into the whole of a field; refusals 6, 9, 14.
+pub fn put(words: &[u16], size: u32, field: &mut [u8]) -> u8 {
+    if !(1..=16).contains(&size) {
+        return 6;
+    }
+    if too_many(words.len(), size, field.len()) {
+        return 9;
+    }
+    if words.iter().any(|&word| u32::from(word) >> size != 0) {
+        return 14;
+    }
+    field.copy_from_slice(&pack(words, size as usize, field.len()));
+    0
+}
+
 #[cfg(test)]
 mod tests {
     use super::*;

@@ -8,7 +8,7 @@ use crate::tags::{self, Tag};
 use crate::watch::{Verdict, Watch};
 use crate::{rows, words};
 
-pub const FAULTS: [&str; 50] = [
+pub const FAULTS: [&str; 52] = [
     "takes copy 1 unread",
     "votes without the check",
     "unpacks ten-bit words low bits first",
@@ -59,6 +59,8 @@ pub const FAULTS: [&str; 50] = [
     "tests only the last byte of fill",
     "keeps the opening tag while the scan goes on",
     "loses the flywheel mark of a kept tag",
+    "takes a size of 256 more as the size",
+    "leaves the fill of a lent field",
 ];
 
 pub struct Wrong(pub &'static str);
@@ -96,6 +98,23 @@ impl Library for Wrong {
             return !word;
         }
         word
+    }
+
+    fn take_words(&self, field: &[u8], size: u32, count: usize, room: &mut [u16]) -> u8 {
+        if self.is("takes a size of 256 more as the size") {
+            return Model.take_words(field, size % 256, count, room);
+        }
+        Model.take_words(field, size, count, room)
+    }
+
+    fn put_words(&self, words: &[u16], size: u32, field: &mut [u8]) -> u8 {
+        let before = field.to_vec();
+        let number = Model.put_words(words, size, field);
+        if number == 0 && self.is("leaves the fill of a lent field") {
+            let front = (words.len() * size as usize).div_ceil(8);
+            field[front..].copy_from_slice(&before[front..]);
+        }
+        number
     }
 
     fn read(&self, block: &[u8], room: &mut [u16]) -> ReadAnswer {

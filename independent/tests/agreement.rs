@@ -2,7 +2,7 @@
 //! that are wrong on purpose.
 
 use independent::check::check_word;
-use independent::compare::{case_of, compare, compare_placements, run, Answer, Case, Tally};
+use independent::compare::{case_of, compare, compare_placements, compare_words, run, Answer, Case, Tally};
 use independent::document::{self, Findings};
 use independent::inputs::{self, Dice};
 use independent::library::{Library, Model};
@@ -43,7 +43,7 @@ fn every_fault_is_found() {
     for fault in FAULTS {
         let library = Wrong(fault);
         let found = compare(&library, 1, 0, 30_000, &mut Tally::default());
-        if found.is_ok() && compare_placements(&library).is_ok() {
+        if found.is_ok() && compare_placements(&library).is_ok() && compare_words(&library, 1, 20_000).is_ok() {
             missed.push(fault);
         }
     }
