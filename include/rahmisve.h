@@ -13,14 +13,14 @@
  * threads at once, as long as none of them writes what another one uses.
  *
  * POINTERS. A buffer is a pointer and, behind it, how many elements it has: `block`, `block_length`. Nothing else is read or written.
- *   - Where the length is 0 the pointer is not followed, and may be NULL.
+ * Where the length is 0 the pointer is not followed, and may be NULL. The caller sees to four things, which nothing can check:
+ *   - A pointer leads to as many elements as its length says, or as its declaration below says.
  *   - A buffer of bytes may stand at any address. One of uint16_t, and a place of uint32_t, int64_t or size_t, is aligned as the C
  *     compiler aligns that type; storage declared or allocated as such is.
  *   - A place for an answer is always written, so it may not be NULL, not even where the call is refused.
  *   - What a call writes may not overlap anything else that is lent to it. What it only reads may overlap: rahmisve_elapsed may be
  *     given one tag twice.
- * Nothing can check these four; they are all that is asked of the caller. There is no number, no length and no content that is not
- * allowed.
+ * They are all that is asked. There is no number, no length and no content that is not allowed.
  *
  * NUMBERS. Words of the specification, blocks' records among them, count from 1 there and here; places in a buffer (`start`) count
  * from 0. Numbers come in as uint32_t so that none is cut to fit: 256 is not block 0 but an unknown block.
@@ -45,16 +45,18 @@ extern "C" {
 #define RAHMISVE_UNKNOWN_VERSION 5  /* a version above 3 */
 #define RAHMISVE_WRONG_SIZE 6       /* the block has no words of this size; a size outside 1 to 16 */
 #define RAHMISVE_WRONG_COUNT 7      /* the block cannot have this count of words */
-#define RAHMISVE_WRONG_LENGTH 8     /* not exactly the required number of bytes (reader) or words (writer, parity) */
+#define RAHMISVE_WRONG_LENGTH 8     /* not exactly the required number of bytes (reader) or words (writer, parity);
+                                     * a field with too few bits for the words to take out of it */
 #define RAHMISVE_SMALL_ROOM 9       /* less room lent than needed, or fewer words than the header counts */
 #define RAHMISVE_CHECK_DISAGREES 10 /* the block's check word is not that of its field */
 #define RAHMISVE_FILL_NOT_ZERO 11   /* a bit behind the last word is 1 */
-#define RAHMISVE_BAD_TAG 12         /* a bad time tag, or one not of eight bytes; a watch whose last tag is bad */
+#define RAHMISVE_BAD_TAG 12         /* a bad time tag, or one not of eight bytes; an open watch whose last tag is bad */
 #define RAHMISVE_NO_RECORD 13       /* a block without records, or no such record; an open watch that expects no block 1 to 10 */
 #define RAHMISVE_LARGE_WORD 14      /* a word too large for its size */
 #define RAHMISVE_OTHER_FIELD 15     /* a field of a recording with another tag than 1; no function here answers it */
 #define RAHMISVE_LONG_LIMIT 16      /* a waiting limit above 3,600,000 ms */
-#define RAHMISVE_OFF_BOUNDARY 17    /* the check word is not on a 16-bit boundary of the block */
+#define RAHMISVE_OFF_BOUNDARY 17    /* the check word is not on a 16-bit boundary of the block: no block is refused so, since
+                                     * every field is a multiple of 16 bits */
 
 /* ---- Sizes ---------------------------------------------------------------------------------------------------------------------- */
 

@@ -34,7 +34,7 @@ impl fmt::Display for Refusal {
             6 => "wrong word size",
             7 => "wrong count of words",
             8 => "wrong length",
-            9 => "room too small",
+            9 => "too little room, or too few words",
             10 => "the check word disagrees",
             11 => "a fill bit is 1",
             12 => "bad time tag",
@@ -146,7 +146,8 @@ pub struct Place {
     pub detector: u8,
 }
 
-/// Which channel and detector record `record`, from 1, of a block holds.
+/// Which channel and detector record `record`, from 1, of a block holds: the fixed placement of an upright spacecraft without
+/// co-registration.
 pub fn place(block: u32, version: u32, record: u32) -> Result<Place, Refusal> {
     let mut p = Place { channel: 0, detector: 0 };
     // SAFETY: as in `read`.
@@ -294,7 +295,7 @@ impl Watch {
         self.0
     }
 
-    /// A watch of ten numbers that were kept, of any value: what is out of bounds is refused by the next offer.
+    /// A watch of ten numbers that were kept, of any value: what is out of bounds is refused by the offer that would use it.
     pub fn of(numbers: [u32; 10]) -> Watch {
         Watch(numbers)
     }

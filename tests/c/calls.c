@@ -619,7 +619,8 @@ static void goes(uint32_t block, const uint8_t *tag, unsigned verdict, uint32_t 
     if (open)
         IS(rahmisve_read_tag(tag, 8, time) == 0);
     IS(offered(block, tag, 8) == 0 && at.byte[1] == verdict);
-    IS(watch[0] == open && watch[1] == expected && watch[9] == limit && memcmp(watch + 2, time, 28) == 0);
+    IS(watch[RAHMISVE_OPEN] == open && watch[RAHMISVE_EXPECTED] == expected && watch[RAHMISVE_LIMIT] == limit);
+    IS(memcmp(watch + RAHMISVE_LAST, time, 28) == 0);
 }
 
 /* An offer that leaves the watch as it is. */
@@ -633,10 +634,10 @@ static void stays(unsigned number, unsigned verdict, uint32_t block, const uint8
 
 static void lent(uint32_t open, uint32_t expected, const uint32_t *time, uint32_t limit)
 {
-    watch[0] = open;
-    watch[1] = expected;
-    memcpy(watch + 2, time, 28);
-    watch[9] = limit;
+    watch[RAHMISVE_OPEN] = open;
+    watch[RAHMISVE_EXPECTED] = expected;
+    memcpy(watch + RAHMISVE_LAST, time, 28);
+    watch[RAHMISVE_LIMIT] = limit;
 }
 
 static void watch_begin(void)

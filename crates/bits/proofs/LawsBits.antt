@@ -1,6 +1,6 @@
 -- The bits of a number, and the number that bits spell: each gives the other back, and bits can be joined and split.
 -- Assumes nothing.
-use mathlib.Core.Path.{_≡_, refl, sym, ap, ap₂, _∙_, subst}
+use mathlib.Core.Path.{_≡_, refl, sym, ap, ap₂, _∙_}
 use mathlib.Core.List.{List, [], _∷_, _++_}
 use Prim.Native.Nat.{ℕ, zero, suc, _+_, _*_, _/_, _%_, _^_, _<_}
 use native.Mathlib.Nat.{mod-lt, mod-eq-of-lt, zero-div, zero-lt-suc, zero-add, suc-add, add-suc, add-comm, pow-suc, mul-comm, lt-of-lt-of-le, le-of-eq}

@@ -1,6 +1,6 @@
 -- The laws of `allZero` and `allFit`, and where the fill begins: within a byte, or at its first bit.
 -- Assumes nothing.
-use mathlib.Core.Path.{_≡_, refl, sym, ap, ap₂, _∙_, subst}
+use mathlib.Core.Path.{_≡_, refl, sym, ap, ap₂, _∙_}
 use mathlib.Core.Bool.{Bool, true, false, _&&_}
 use mathlib.Core.List.{List, [], _∷_, _++_, append-assoc}
 use Prim.Native.Nat.{ℕ, zero, suc, _+_, _-_, _*_, _/_, _%_, _^_, _≤_, _<_}
@@ -12,26 +12,18 @@ use lib.Dec.{eqb, ltb}
 use lib.ListN.{length, getD, drop, replicate, drop-of-length-le}
 use lib.Seq.{drop-at, drop-drop, drop-cons}
 use lib.Pow.{pow-pos}
+use Rattle.ground.proofs.LawsTests.{first, second}
 use Rattle.bits.specs.Bits.{bits, value, sent, Below}
 use Rattle.bits.specs.Fields.{fillOf, allZero, allFit}
 use Rattle.bits.proofs.LawsBelow.{below-at}
 use Rattle.bits.proofs.LawsBits.{length-bits, bits-split, bits-zero, value-bits}
 use Rattle.bits.proofs.LawsWords.{length-spell, spell-next, spell-nil, drop-spell}
 
--- both of two tests hold
-and-left : (a b : Bool) → a && b ≡ true → a ≡ true
-and-left true b h = refl
-and-left false b h = h
-
-and-right : (a b : Bool) → a && b ≡ true → b ≡ true
-and-right true b h = h
-and-right false b h = let z : false ≡ true = h in cc
-
 pub zero-all : (bs : List ℕ) → allZero bs ≡ true → bs ≡ replicate (length bs) 0
 unfolding allZero
 zero-all [] h = refl
 zero-all (b ∷ bs) h =
-    ap₂ (λ (x : ℕ) (l : List ℕ). x ∷ l) (eqb-true b 0 (and-left (eqb b 0) (allZero bs) h)) (zero-all bs (and-right (eqb b 0) (allZero bs) h))
+    ap₂ (λ (x : ℕ) (l : List ℕ). x ∷ l) (eqb-true b 0 (first (eqb b 0) (allZero bs) h)) (zero-all bs (second (eqb b 0) (allZero bs) h))
 
 pub all-zero : (k : ℕ) → allZero (replicate k 0) ≡ true
 unfolding allZero
@@ -149,7 +141,7 @@ pub fit-below : (size : ℕ) (ws : List ℕ) → allFit size ws ≡ true → Bel
 unfolding allFit
 fit-below size [] h = tt
 fit-below size (w ∷ ws) h =
-    (ltb-true w (2 ^ size) (and-left (ltb w (2 ^ size)) (allFit size ws) h), fit-below size ws (and-right (ltb w (2 ^ size)) (allFit size ws) h))
+    (ltb-true w (2 ^ size) (first (ltb w (2 ^ size)) (allFit size ws) h), fit-below size ws (second (ltb w (2 ^ size)) (allFit size ws) h))
 
 pub below-fit : (size : ℕ) (ws : List ℕ) → Below (2 ^ size) ws → allFit size ws ≡ true
 unfolding allFit

@@ -1,8 +1,7 @@
 -- The rows of the scope's numbered table that speak of words, by computation.
 -- Assumes nothing.
 use mathlib.Core.Path.{_≡_, refl}
-use mathlib.Core.List.{List, [], _∷_}
-use Prim.Native.Nat.{ℕ}
+use mathlib.Core.List.{[], _∷_}
 use Rattle.bits.specs.Bits.{bits, value, spell, words}
 use Rattle.bits.specs.Fields.{wordsOf}
 

@@ -21,7 +21,7 @@ fn zero_from(field: &[u8], start: usize) -> bool
 }
 
 // Whether all bits behind words that fit the field are zero: the low bits of the byte in which the last word ends, then whole bytes.
-pub fn zero_behind(field: &[u8], size: usize, count: usize) -> bool
+pub(crate) fn zero_behind(field: &[u8], size: usize, count: usize) -> bool
     requires { ⌜ size ≤ 255 ⌝ }
     requires { ⌜ count * size ≤ length (now field) * 8 ⌝ }
     ensures { λ r. ⌜ r ≡ allZero (fillOf size count (now (field .entry))) ⌝ }

@@ -5,14 +5,14 @@ ghost use Rattle.bits.specs.Fields.{fit, badSize, allFit};
 
 const MOST_BITS: u8 = 16;
 
-pub fn is_bad_size(size: u8) -> bool
+pub(crate) fn is_bad_size(size: u8) -> bool
     ensures { λ r. ⌜ r ≡ badSize size ⌝ }
 {
     (size == 0) | (MOST_BITS < size)
 }
 
 // Whether `count` words of `size` bits fit `len` bytes. Eight words take `size` bytes, and no product here can overflow.
-pub fn they_fit(count: usize, size: u8, len: usize) -> bool
+pub(crate) fn they_fit(count: usize, size: u8, len: usize) -> bool
     ensures { λ r. ⌜ r ≡ fit count size len ⌝ }
 {
     if size == 0 {
@@ -27,7 +27,7 @@ pub fn they_fit(count: usize, size: u8, len: usize) -> bool
 }
 
 // Whether every word has at most `size` bits.
-pub fn all_fit(words: &[u16], size: u8) -> bool
+pub(crate) fn all_fit(words: &[u16], size: u8) -> bool
     requires { ⌜ size ≤ 16 ⌝ }
     ensures { λ r. ⌜ r ≡ allFit size (now (words .entry)) ⌝ }
 {

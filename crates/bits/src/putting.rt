@@ -6,7 +6,7 @@ ghost use Rattle.bits.specs.Bits.{Below};
 ghost use Rattle.bits.specs.Fields.{fieldOf};
 
 // `acc` holds the `have` bits that are put and not yet part of a byte; behind the last word they are filled up with zeros.
-pub fn put_each(words: &[u16], size: usize, field: &mut [u8])
+pub(crate) fn put_each(words: &[u16], size: usize, field: &mut [u8])
     requires { ⌜ (1 ≤ size) × (size ≤ 16) ⌝ }
     requires { ⌜ length (now words) * size ≤ length (now field) * 8 ⌝ }
     requires { ⌜ Below (2 ^ size) (now words) ⌝ }

@@ -6,7 +6,7 @@ ghost use lib.ListN.{length, drop};
 ghost use Rattle.bits.specs.Fields.{wordsOf};
 
 // `acc` holds the `have` bits that are read and not yet part of a word.
-pub fn take_each(field: &[u8], size: usize, count: usize, room: &mut [u16])
+pub(crate) fn take_each(field: &[u8], size: usize, count: usize, room: &mut [u16])
     requires { ⌜ (1 ≤ size) × (size ≤ 16) ⌝ }
     requires { ⌜ count * size ≤ length (now field) * 8 ⌝ }
     requires { ⌜ count ≤ length (now room) ⌝ }

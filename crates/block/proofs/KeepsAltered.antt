@@ -26,7 +26,7 @@ use Rattle.header.proofs.LawsAgreed.{each}
 use Rattle.block.specs.Layout.{blockLength}
 use Rattle.block.specs.Answers.{refusedAnswer, answerOf, roomAfter}
 use Rattle.block.specs.Meets.{Meets}
-use Rattle.block.specs.Promises.{Accepted, blockOf, TwoAltered, Alike, FindsAltered}
+use Rattle.block.specs.Promises.{Accepted, joinedBlock, TwoAltered, Alike, FindsAltered}
 use Rattle.block.proofs.LawsMeets.{refused-10}
 use Rattle.block.proofs.KeepsReader.{refuses-in-order, refusal-leaves, accepted-meets, accepts-exactly, answers-truly, words-cut}
 
@@ -44,26 +44,26 @@ altered-same x y b a px py = go (sameAs y x) refl
 
 -- three copies and what stands behind them
 module _ (x y z rest : List ℕ) (lx : length x ≡ copyLength) (ly : length y ≡ copyLength) (lz : length z ≡ copyLength) where
-  behind-1 : drop copyLength (blockOf x y z rest) ≡ y ++ (z ++ rest)
+  behind-1 : drop copyLength (joinedBlock x y z rest) ≡ y ++ (z ++ rest)
   behind-1 = drop-at x (y ++ (z ++ rest)) copyLength lx
 
-  behind-2 : drop (2 * copyLength) (blockOf x y z rest) ≡ z ++ rest
-  behind-2 = sym (drop-drop copyLength copyLength (blockOf x y z rest)) ∙ ap (drop copyLength) behind-1 ∙ drop-at y (z ++ rest) copyLength ly
+  behind-2 : drop (2 * copyLength) (joinedBlock x y z rest) ≡ z ++ rest
+  behind-2 = sym (drop-drop copyLength copyLength (joinedBlock x y z rest)) ∙ ap (drop copyLength) behind-1 ∙ drop-at y (z ++ rest) copyLength ly
 
-  pub behind-3 : drop copiesLength (blockOf x y z rest) ≡ rest
-  behind-3 = sym (drop-drop copyLength (2 * copyLength) (blockOf x y z rest)) ∙ ap (drop copyLength) behind-2 ∙ drop-at z rest copyLength lz
+  pub behind-3 : drop copiesLength (joinedBlock x y z rest) ≡ rest
+  behind-3 = sym (drop-drop copyLength (2 * copyLength) (joinedBlock x y z rest)) ∙ ap (drop copyLength) behind-2 ∙ drop-at z rest copyLength lz
 
-  pub copies-are : (k : ℕ) → k < 3 → copyAt k (blockOf x y z rest) ≡ getD (x ∷ y ∷ z ∷ []) k []
+  pub copies-are : (k : ℕ) → k < 3 → copyAt k (joinedBlock x y z rest) ≡ getD (x ∷ y ∷ z ∷ []) k []
   copies-are =
-      each (λ k. copyAt k (blockOf x y z rest) ≡ getD (x ∷ y ∷ z ∷ []) k [])
+      each (λ k. copyAt k (joinedBlock x y z rest) ≡ getD (x ∷ y ∷ z ∷ []) k [])
       (take-at x (y ++ (z ++ rest)) copyLength lx)
       (ap (take copyLength) behind-1 ∙ take-at y (z ++ rest) copyLength ly)
       (ap (take copyLength) behind-2 ∙ take-at z rest copyLength lz)
 
-  pub block-long : length (blockOf x y z rest) ≡ copiesLength + length rest
+  pub block-long : length (joinedBlock x y z rest) ≡ copiesLength + length rest
   block-long = omega (arith, length-append x (y ++ (z ++ rest)), length-append y (z ++ rest), length-append z rest)
 
-pub block-bytes : (x y z rest : List ℕ) → Below 256 x → Below 256 y → Below 256 z → Below 256 rest → Below 256 (blockOf x y z rest)
+pub block-bytes : (x y z rest : List ℕ) → Below 256 x → Below 256 y → Below 256 z → Below 256 rest → Below 256 (joinedBlock x y z rest)
 block-bytes x y z rest bx by bz br = below-append 256 x (y ++ (z ++ rest)) bx (below-append 256 y (z ++ rest) by (below-append 256 z rest bz br))
 
 -- the copies as received agree on the one that was sent, whatever stands behind them
@@ -77,11 +77,11 @@ module _ (a x y z : List ℕ) (ba : Below 256 a) (t : TwoAltered a x y z) where
   lz : length z ≡ copyLength
   lz = t .third .long ∙ t .long
 
-  pub still-agreed : (rest : List ℕ) → Passes generator a → Agreed (blockOf x y z rest) a
+  pub still-agreed : (rest : List ℕ) → Passes generator a → Agreed (joinedBlock x y z rest) a
   still-agreed rest p =
       let at = copies-are x y z rest lx ly lz in
       let long = block-long x y z rest lx ly lz in
-      let here : (j : ℕ) → j < 3 → getD (x ∷ y ∷ z ∷ []) j [] ≡ a → Agreed (blockOf x y z rest) a =
+      let here : (j : ℕ) → j < 3 → getD (x ∷ y ∷ z ∷ []) j [] ≡ a → Agreed (joinedBlock x y z rest) a =
       λ j h e.
       record {
         long = omega arith;
@@ -99,7 +99,7 @@ module _ (a x y z : List ℕ) (ba : Below 256 a) (t : TwoAltered a x y z) where
       ⊎-elim (here 0 (lit< tt)) (⊎-elim (here 1 (lit< tt)) (here 2 (lit< tt))) (t .whole)
 
   -- of a block that was sent so, and meets the specification
-  module _ (rest : List ℕ) (m : Meets (blockOf a a a rest)) where
+  module _ (rest : List ℕ) (m : Meets (joinedBlock a a a rest)) where
     sent-copy : m .copy ≡ a
     sent-copy =
         let g = m .agreed in
@@ -112,16 +112,16 @@ module _ (a x y z : List ℕ) (ba : Below 256 a) (t : TwoAltered a x y z) where
     asked : Asks (take headerLength a) (m .number) (m .version) (m .size) (m .words)
     asked = subst (λ (c : List ℕ). Asks (take headerLength c) (m .number) (m .version) (m .size) (m .words)) sent-copy (m .asks)
 
-    sent-rest : drop copiesLength (blockOf a a a rest) ≡ rest
+    sent-rest : drop copiesLength (joinedBlock a a a rest) ≡ rest
     sent-rest = behind-3 a a a rest (t .long) (t .long) (t .long)
 
-    received-long : (other : List ℕ) → length other ≡ length rest → length (blockOf x y z other) ≡ blockLength (fieldBytes (m .number) (m .words))
+    received-long : (other : List ℕ) → length other ≡ length rest → length (joinedBlock x y z other) ≡ blockLength (fieldBytes (m .number) (m .words))
     received-long other l =
         block-long x y z other lx ly lz ∙ ap (λ (n : ℕ). copiesLength + n) l ∙ sym (block-long a a a rest (t .long) (t .long) (t .long)) ∙ m .long
 
-    received-meets : Meets (blockOf x y z rest)
+    received-meets : Meets (joinedBlock x y z rest)
     received-meets =
-        let same : drop copiesLength (blockOf a a a rest) ≡ drop copiesLength (blockOf x y z rest) = sent-rest ∙ sym (behind-3 x y z rest lx ly lz) in
+        let same : drop copiesLength (joinedBlock a a a rest) ≡ drop copiesLength (joinedBlock x y z rest) = sent-rest ∙ sym (behind-3 x y z rest lx ly lz) in
         record {
           copy = a;
           number = m .number;
@@ -139,17 +139,17 @@ module _ (a x y z : List ℕ) (ba : Below 256 a) (t : TwoAltered a x y z) where
         }
 
     module _ (br : Below 256 rest) (room : List ℕ) (r : m .words ≤ length room) where
-      sent-bytes : Below 256 (blockOf a a a rest)
+      sent-bytes : Below 256 (joinedBlock a a a rest)
       sent-bytes = block-bytes a a a rest ba ba ba br
 
-      received-bytes : (other : List ℕ) → Below 256 other → Below 256 (blockOf x y z other)
+      received-bytes : (other : List ℕ) → Below 256 other → Below 256 (joinedBlock x y z other)
       received-bytes other b = block-bytes x y z other (t .first .bytes) (t .second .bytes) (t .third .bytes) b
 
-      pub copies-alike : Alike (blockOf x y z rest) (blockOf a a a rest) room
+      pub copies-alike : Alike (joinedBlock x y z rest) (joinedBlock a a a rest) room
       unfolding received-meets
       copies-alike =
-          let one = blockOf x y z rest in
-          let all = blockOf a a a rest in
+          let one = joinedBlock x y z rest in
+          let all = joinedBlock a a a rest in
           let n = length room in
           let b = received-bytes rest br in
           record {
@@ -165,9 +165,9 @@ module _ (a x y z : List ℕ) (ba : Below 256 a) (t : TwoAltered a x y z) where
 
       -- whatever stands behind the copies and is as long, but does not pass
       pub other-refused : (other : List ℕ) → Below 256 other → length other ≡ length rest → (Passes generator other → ⊥)
-          → (answerOf (blockOf x y z other) (length room) ≡ refusedAnswer 10) × (roomAfter (blockOf x y z other) room ≡ room)
+          → (answerOf (joinedBlock x y z other) (length room) ≡ refusedAnswer 10) × (roomAfter (joinedBlock x y z other) room ≡ room)
       other-refused other bo l f =
-          let block = blockOf x y z other in
+          let block = joinedBlock x y z other in
           let behind = behind-3 x y z other lx ly lz in
           let ten : answerOf block (length room) .number ≡ 10 =
           refuses-in-order block (length room)
@@ -180,11 +180,11 @@ finds-altered =
     record {
       copies =
           λ a x y z rest room ba br e t.
-          let k = accepted-meets (blockOf a a a rest) (block-bytes a a a rest ba ba ba br) (length room) e in
+          let k = accepted-meets (joinedBlock a a a rest) (block-bytes a a a rest ba ba ba br) (length room) e in
           copies-alike a x y z ba t rest (k .0) br room (k .1);
       field =
           λ a x y z rest other room ba br e t alt ne.
-          let k = accepted-meets (blockOf a a a rest) (block-bytes a a a rest ba ba ba br) (length room) e in
+          let k = accepted-meets (joinedBlock a a a rest) (block-bytes a a a rest ba ba ba br) (length room) e in
           let p : Passes generator rest = subst (Passes generator) (behind-3 a a a rest (t .long) (t .long) (t .long)) (k .0 .checked) in
           other-refused a x y z ba t rest (k .0) br room (k .1) other (alt .bytes) (alt .long) (λ q. ne (sym (altered-same rest other br alt p q)));
     }

@@ -1,31 +1,34 @@
 -- The reader's promises on refusals and on acceptance: its answer and its room go by the first ground that holds, and none holds exactly
 -- where the block meets the specification and is given room.
 -- Assumes nothing.
-use Prim.Native.Nat.{ℕ, _≤_}
+use Prim.Native.Nat.{ℕ, _+_, _-_, _*_, _%_, _≤_}
 use mathlib.Core.Path.{_≡_, refl, sym, ap, _∙_}
 use mathlib.Core.Logic.{_↔_}
-use mathlib.Core.Bool.{Bool, true}
+use mathlib.Core.Bool.{Bool, true, not}
+use native.Mathlib.Omega.{arith}
 use mathlib.Core.List.{List, [], _∷_, _++_}
-use lib.ListN.{length, drop}
-use borrow.Author.Tests.{ltb-false, le-ltb}
+use lib.ListN.{length, take, drop, length-drop}
+use borrow.Author.Tests.{ltb-false, le-ltb, eq-eqb}
 use Rattle.ground.specs.Grounds.{_when_}
+use Rattle.ground.proofs.LawsTests.{never}
 use Rattle.ground.proofs.LawsGrounds.{accepts, refuses, reads-number, none-first, first-none, exactly}
 use Rattle.bits.specs.Bits.{Below, spell, words, sent}
-use Rattle.bits.specs.Fields.{wordsOf}
-use Rattle.bits.proofs.LawsWords.{words-spell}
+use Rattle.bits.specs.Fields.{wordsOf, fillOf}
+use Rattle.bits.proofs.LawsWords.{length-spell, words-spell}
 use Rattle.check_word.specs.Check.{generator, passes}
 use Rattle.check_word.specs.Finds.{Passes}
 use Rattle.check_word.proofs.LawsPasses.{passes-true, true-passes}
 use Rattle.row.specs.Field.{fieldBytes}
-use Rattle.header.specs.Says.{wordsIn}
+use Rattle.row.proofs.LawsField.{bits-whole, fields-even}
+use Rattle.header.specs.Says.{blockIn, wordsIn, bytesIn}
 use Rattle.header.specs.Copies.{copiesLength, copyAt, tooShort, noCopyPasses, headerIn}
 use Rattle.header.proofs.LawsAgreed.{copy-bytes, none-passes, passes-none}
 use Rattle.block.specs.declared.Answer.{Answer}
 use Rattle.block.specs.Layout.{informationField}
-use Rattle.block.specs.Grounds.{groundsOf, refusalOf}
+use Rattle.block.specs.Grounds.{offBoundary, groundsOf, refusalOf}
 use Rattle.block.specs.Answers.{refusedAnswer, acceptedAnswer, answerOf, wordsBy, roomAfter}
 use Rattle.block.specs.Meets.{Meets}
-use Rattle.block.specs.Promises.{Accepted, RefusesInOrder, RefusesExactly, RefusalLeaves, TwoExactly, AcceptsExactly, AnswersTruly, GivesWords}
+use Rattle.block.specs.Promises.{Accepted, RefusesInOrder, RefusesExactly, RefusalLeaves, TwoExactly, SeventeenNever, FillMeasured, AcceptsExactly, AnswersTruly, GivesWords}
 use Rattle.block.proofs.LawsMeets.{none-meets, meets-none, header-is, words-are, size-is, bytes-are, refused-9}
 
 -- ---- refusals
@@ -35,10 +38,7 @@ unfolding answerOf refusalOf
 refuses-in-order block room = reads-number (acceptedAnswer block) refusedAnswer (λ (r : Answer). r .number) refl (λ n. refl) (refusalOf block room)
 
 pub refuses-exactly : RefusesExactly
-refuses-exactly block room before g after e =
-    let k = exactly (groundsOf block (headerIn block) room) before g after refl refl e in
-    let n = refuses-in-order block room in
-    (λ f. k .0 (sym n ∙ f), λ h. n ∙ k .1 h)
+refuses-exactly block room = exactly (groundsOf block (headerIn block) room) refl refl (refuses-in-order block room)
 
 number-is : (block : List ℕ) (room : ℕ) → answerOf block room .number ≡ refusalOf block room
 unfolding refusalOf
@@ -61,6 +61,19 @@ two-exactly block room bytes =
       λ e. let h = k .0 e in record { long = ltb-false (length block) copiesLength (h .0 .0); none = none-passes block bytes (h .1) },
       λ n. k .1 ((le-ltb (length block) copiesLength (n .long), tt), passes-none block bytes (n .none)),
     )
+
+pub seventeen-never : SeventeenNever
+seventeen-never block room e =
+    let h = headerIn block in
+    let odd = refuses-exactly block room (take 8 (groundsOf block h room)) (17 when offBoundary (bytesIn h)) _ refl .0 e .1 in
+    let even = fields-even (blockIn h) (wordsIn h) in
+    let whole : (copiesLength + bytesIn h) % 2 ≡ 0 = omega arith in
+    never (sym (ap not (eq-eqb ((copiesLength + bytesIn h) % 2) 0 whole)) ∙ odd)
+
+pub fill-measured : FillMeasured
+unfolding fillOf fieldBytes
+fill-measured number size count field e =
+    length-drop (count * size) (sent field) ∙ ap (λ (n : ℕ). n - count * size) (length-spell 8 field ∙ ap (λ (n : ℕ). n * 8) e ∙ omega (arith, bits-whole number count))
 
 -- ---- demand 2
 

@@ -10,7 +10,7 @@ use lib.ListN.{length, take, drop, getD}
 use lib.Seq.{getD-drop}
 use borrow.Author.Tests.{ltb-false, lt-ltb, le-ltb, eqb-true, eq-eqb, not-false}
 use Rattle.ground.specs.Grounds.{Ground, _when_, firstOf, NoneHolds}
-use Rattle.ground.proofs.LawsChoice.{both, split}
+use Rattle.ground.proofs.LawsTests.{both, split}
 use Rattle.ground.proofs.LawsGrounds.{none-append, first-is}
 use Rattle.bits.specs.Bits.{Below, sent}
 use Rattle.bits.specs.Fields.{fillOf, allZero}

@@ -8,10 +8,11 @@ use mathlib.Core.List.{List, _∷_, _++_}
 use lib.ListN.{length, take, drop}
 use Rattle.ground.specs.Grounds.{Ground, firstOf, NoneHolds}
 use Rattle.bits.specs.Bits.{Below, spell, words, sent}
+use Rattle.bits.specs.Fields.{fillOf}
 use Rattle.bits.specs.Runs.{Altered}
 use Rattle.check_word.specs.Check.{generator}
 use Rattle.check_word.specs.Finds.{Passes}
-use Rattle.row.specs.Field.{fieldBytes}
+use Rattle.row.specs.Field.{fieldBytes, fillBits}
 use Rattle.header.specs.Says.{headerLength}
 use Rattle.header.specs.Copies.{copyLength, copyAt, headerIn}
 use Rattle.header.specs.Agreed.{NoneAgreed}
@@ -44,6 +45,14 @@ pub record RefusalLeaves : Type 0 where
 abbrev pub TwoExactly : Type 0
 TwoExactly = (block : List ℕ) (room : ℕ) → Below 256 block → (answerOf block room .number ≡ 2) ↔ NoneAgreed block
 
+-- Refusal 17 is given to no block: every field is an even number of bytes.
+abbrev pub SeventeenNever : Type 0
+SeventeenNever = (block : List ℕ) (room : ℕ) → answerOf block room .number ≡ 17 → ⊥
+
+-- The fill that is tested has as many bits as the field has beside its words.
+abbrev pub FillMeasured : Type 0
+FillMeasured = (number size count : ℕ) (field : List ℕ) → length field ≡ fieldBytes number count → length (fillOf size count field) ≡ fillBits number size count
+
 -- ---- demand 2
 
 -- A block that is given room is accepted exactly when it meets the specification; one that meets it and is given less is refusal 9.
@@ -71,8 +80,8 @@ pub record GivesWords : Type 0 where
 -- ---- demand 3
 
 -- a block: three copies, and the field with its check word behind them
-abbrev pub blockOf : (a b c rest : List ℕ) → List ℕ
-blockOf a b c rest = a ++ (b ++ (c ++ rest))
+abbrev pub joinedBlock : (a b c rest : List ℕ) → List ℕ
+joinedBlock a b c rest = a ++ (b ++ (c ++ rest))
 
 -- x, y and z are the copy a three times, with at most two of them altered, each inside one run of 16 bits in the order sent
 pub record TwoAltered (a x y z : List ℕ) : Type 0 where
@@ -93,8 +102,8 @@ pub record Alike (one other room : List ℕ) : Type 0 where
 -- accepted with the same header and words. With the field and its check word altered besides, at least one bit, all inside one run of
 -- 16 bits, it is refusal 10, and the room is as it was.
 pub record FindsAltered : Type 0 where
-  pub copies : (a x y z rest room : List ℕ) → Below 256 a → Below 256 rest → Accepted (blockOf a a a rest) (length room) → TwoAltered a x y z
-      → Alike (blockOf x y z rest) (blockOf a a a rest) room
-  pub field : (a x y z rest other room : List ℕ) → Below 256 a → Below 256 rest → Accepted (blockOf a a a rest) (length room) → TwoAltered a x y z
+  pub copies : (a x y z rest room : List ℕ) → Below 256 a → Below 256 rest → Accepted (joinedBlock a a a rest) (length room) → TwoAltered a x y z
+      → Alike (joinedBlock x y z rest) (joinedBlock a a a rest) room
+  pub field : (a x y z rest other room : List ℕ) → Below 256 a → Below 256 rest → Accepted (joinedBlock a a a rest) (length room) → TwoAltered a x y z
       → Altered 16 rest other → (rest ≡ other → ⊥)
-      → (answerOf (blockOf x y z other) (length room) ≡ refusedAnswer 10) × (roomAfter (blockOf x y z other) room ≡ room)
+      → (answerOf (joinedBlock x y z other) (length room) ≡ refusedAnswer 10) × (roomAfter (joinedBlock x y z other) room ≡ room)

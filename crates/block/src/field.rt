@@ -9,11 +9,9 @@ ghost use Rattle.row.specs.Promises.{longestField, Held};
 ghost use Rattle.header.specs.Copies.{copiesLength};
 ghost use Rattle.block.specs.Layout.{blockLength, informationField};
 ghost use Rattle.block.specs.Grounds.{wrongLength, offBoundary, smallRoom, checkDisagrees, fillNotZero, fieldGrounds};
+use check_word::CHECK_BYTES;
 use header::COPIES_BYTES;
 use header::Plan;
-
-// The check word behind the field.
-const CHECK_BYTES: usize = 2;
 
 fn wrong_length(block: &[u8], bytes: usize) -> bool
     requires { ⌜ bytes ≤ longestField ⌝ }
@@ -51,7 +49,7 @@ fn fill_not_zero(plan: Plan, block: &[u8]) -> bool
 }
 
 // The first ground that refuses the field, in the order 8, 17, 9, 10, 11.
-pub fn refusal(plan: Plan, block: &[u8], room: usize) -> u8
+pub(crate) fn refusal(plan: Plan, block: &[u8], room: usize) -> u8
     requires { ⌜ plan .bytes ≤ longestField ⌝ }
     ensures { λ r. ⌜ r ≡ firstOf (fieldGrounds (plan .size) (plan .words) (plan .bytes) (now (block .entry)) room) ⌝ }
 {
@@ -74,7 +72,7 @@ pub fn refusal(plan: Plan, block: &[u8], room: usize) -> u8
 }
 
 // Takes the words of a field that no ground refuses to the front of the room.
-pub fn take(plan: Plan, block: &[u8], room: &mut [u16])
+pub(crate) fn take(plan: Plan, block: &[u8], room: &mut [u16])
     requires { ⌜ Held (plan .size) (plan .words) (plan .bytes) ⌝ }
     requires { ⌜ length (now block) ≡ blockLength (plan .bytes) ⌝ }
     requires { ⌜ plan .words ≤ length (now room) ⌝ }

@@ -1,7 +1,7 @@
 -- A word of 64 bits stands for a register, and `folded` and `finished` do to it what 64 zeros and the end do to that. Both sides are
 -- linear, so each law is a test at the 64 powers of two.
 -- Assumes nothing.
-use mathlib.Core.Path.{_≡_, refl, sym, ap, ap₂, _∙_, subst}
+use mathlib.Core.Path.{_≡_, refl, sym, ap, _∙_, subst}
 use mathlib.Core.List.{List, [], _∷_, _++_}
 use Prim.Native.Nat.{ℕ, zero, suc, _+_, _*_, _/_, _%_, _^_, _<_, _≤_}
 use native.Mathlib.Nat.{mod-lt, lt-of-le-of-lt, lt-of-lt-of-le, le-of-eq, zero-lt-suc}
@@ -16,7 +16,6 @@ use lib.Bits.{bitXor, xor-lt, xor-zero-r}
 use Rattle.bits.specs.Bits.{bits, spell, sent, Below}
 use Rattle.bits.proofs.LawsBelow.{below-take, below-drop}
 use Rattle.bits.proofs.LawsBits.{bits-below, bits-join}
-use Rattle.bits.proofs.LawsWords.{spell-cons, spell-nil}
 use Rattle.check_word.specs.Check.{generator, fed, feed}
 use Rattle.check_word.specs.Eight.{after, big, down1, down2, down3, up2, folded, finished, joined, Stands}
 use Rattle.check_word.proofs.LawsLinear.{LinearOn, Linear, by-basis, agree, agree-at, id-linear, shr-linear, shl-linear, mod-linear, sum-linear, then-linear}

@@ -1,9 +1,9 @@
 -- The register's step is linear, and what stands in the register can be fed to it as bits: the two laws behind the quick ways and
 -- behind what the check finds.
 -- Assumes nothing.
-use mathlib.Core.Path.{_≡_, refl, sym, ap, ap₂, _∙_, subst}
+use mathlib.Core.Path.{_≡_, refl, sym, ap, ap₂, _∙_}
 use mathlib.Core.List.{List, [], _∷_, _++_, append-nil}
-use Prim.Native.Nat.{ℕ, zero, suc, _+_, _*_, _/_, _%_, _^_, _<_, _≤_}
+use Prim.Native.Nat.{ℕ, zero, suc, _+_, _*_, _/_, _%_, _^_, _<_}
 use native.Mathlib.Nat.{mod-lt, mod-eq-of-lt, mod-mod, mul-one, add-mul, mul-assoc, mul-comm, mul-add-mod-self-right, div-add-mod', mul-div-mul-right, zero-mul, pow-suc, zero-lt-suc}
 use native.Mathlib.Omega.{arith}
 use native.Mathlib.Numerals.{add-one}
@@ -60,15 +60,6 @@ pub feed-append : (g r : ℕ) (xs ys : List ℕ) → feed g r (xs ++ ys) ≡ fee
 unfolding feed
 feed-append g r [] ys = refl
 feed-append g r (x ∷ xs) ys = feed-append g (fed g r x) xs ys
-
-pub feed-nil : (g r : ℕ) → feed g r [] ≡ r
-unfolding feed
-feed-nil g r = refl
-
--- a word's top bit first, then the rest of it
-pub feed-bits : (g r n w : ℕ) → feed g r (bits (suc n) w) ≡ feed g (fed g r (w / 2 ^ n % 2)) (bits n w)
-unfolding feed bits
-feed-bits g r n w = refl
 
 bit-of-xor : (x y n : ℕ) → bitXor x y / 2 ^ n % 2 ≡ bitXor (x / 2 ^ n % 2) (y / 2 ^ n % 2)
 bit-of-xor x y n = ap (λ (k : ℕ). k % 2) (xor-shr x y n) ∙ xor-mod (x / 2 ^ n) (y / 2 ^ n) 1

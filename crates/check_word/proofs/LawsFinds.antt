@@ -4,7 +4,7 @@
 use mathlib.Core.Path.{_≡_, refl, sym, ap, ap₂, _∙_, subst}
 use mathlib.Core.Logic.{_⊎_, inl, inr, ⊎-elim}
 use mathlib.Core.List.{List, [], _∷_, _++_, append-nil}
-use Prim.Native.Nat.{ℕ, zero, suc, _+_, _-_, _*_, _/_, _%_, _^_, _<_, _≤_, min}
+use Prim.Native.Nat.{ℕ, _+_, _-_, _*_, _/_, _%_, _^_, _<_, _≤_, min}
 use native.Mathlib.Nat.{div-add-mod', mul-assoc, mul-mod-left, div-one, add-comm, mod-lt}
 use native.Mathlib.Omega.{arith}
 use lib.Dec.{lit<}
@@ -13,13 +13,13 @@ use lib.Seq.{ext-getD, getD-take, getD-drop, drop-drop}
 use lib.Pow.{pow-pos, pow-add, shl-lt, shl-shr, shr-lt}
 use lib.Bits.{bitXor, xor-mod, xor-comm, xor-self, xor-zero-r, xor-lt}
 use Rattle.bits.specs.Bits.{bits, value, spell, sent, words, Below}
-use Rattle.bits.specs.Runs.{InRun, Altered}
+use Rattle.bits.specs.Runs.{InRun}
 use Rattle.bits.proofs.LawsBelow.{below-take, below-drop}
 use Rattle.bits.proofs.LawsBits.{bits-below, bits-join, value-lt, bits-value}
 use Rattle.bits.proofs.LawsWords.{length-spell, spell-below, spell-append, spell-cons, spell-nil, words-spell}
 use Rattle.check_word.specs.Check.{fed, feed, checkBy, generator, bytesOf}
-use Rattle.check_word.specs.Finds.{Passes, FindsRuns}
-use Rattle.check_word.proofs.LawsXor.{bit, xor-cancel, xor-twice}
+use Rattle.check_word.specs.Finds.{Passes, FindsRuns, FindsSixteen}
+use Rattle.check_word.proofs.LawsXor.{bit, xor-cancel}
 use Rattle.check_word.proofs.LawsFeed.{top-lt, fed-lt, feed-lt, shift-out, feed-from, feed-append}
 
 cancel-right : (a : ℕ) {b c : ℕ} → bitXor b a ≡ bitXor c a → b ≡ c
@@ -165,7 +165,7 @@ module _ (g : ℕ) (hg : g < 65536) where
 
 -- ---- what is promised
 
-pub finds-runs : (g : ℕ) → g < 65536 → g % 2 ≡ 1 → FindsRuns g 16
+pub finds-runs : FindsSixteen
 finds-runs g hg odd x y hx h ne px py =
     let same : length x ≡ length y = sym (h .long) in
     let long : length (sent x) ≡ length (sent y) = length-spell 8 x ∙ ap (λ (n : ℕ). n * 8) same ∙ sym (length-spell 8 y) in

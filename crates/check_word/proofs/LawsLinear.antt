@@ -2,7 +2,7 @@
 -- and that is a test which is computed.
 -- Assumes nothing.
 use mathlib.Core.Path.{_≡_, refl, sym, ap, ap₂, _∙_, subst}
-use mathlib.Core.Bool.{Bool, true, false, _&&_}
+use mathlib.Core.Bool.{Bool, true, _&&_}
 use Prim.Native.Nat.{ℕ, zero, suc, _+_, _*_, _/_, _%_, _^_, _<_}
 use native.Mathlib.Nat.{mod-lt, zero-mul, one-mul, zero-add, add-zero, add-suc, suc-add, lt-of-lt-of-le, le-suc, le-refl, le-of-suc-le-suc, not-suc-le-zero}
 use native.Mathlib.Numerals.{one-add}
@@ -10,6 +10,7 @@ use lib.Arith.{lt-one}
 use lib.Dec.{T, eqb, eqb→eq}
 use lib.Pow.{pow-pos, pow-mono, pow-lt, split, shr-lt}
 use lib.Bits.{bitXor, xor-shr, xor-mod, xor-block, xor-self, xor-shifted}
+use Rattle.ground.proofs.LawsTests.{T-first, T-second}
 use Rattle.check_word.proofs.LawsXor.{bit, xor-four}
 
 -- ---- a rule at every number below a bound, by computing it there
@@ -19,21 +20,13 @@ abbrev pub agree : (ℕ → ℕ) → (ℕ → ℕ) → ℕ → ℕ → Bool
 agree f h i zero = true
 agree f h i (suc n) = eqb (f i) (h i) && agree f h (suc i) n
 
-both-left : (a b : Bool) → T (a && b) → T a
-both-left true b t = tt
-both-left false b t = t
-
-both-right : (a b : Bool) → T (a && b) → T b
-both-right true b t = t
-both-right false b t = absurd t
-
 agree-from : (f h : ℕ → ℕ) (i n : ℕ) → T (agree f h i n) → (k : ℕ) → k < n → f (i + k) ≡ h (i + k)
 agree-from f h i zero t k l = absurd (not-suc-le-zero l)
 agree-from f h i (suc n) t zero l =
-    ap f (add-zero i) ∙ eqb→eq (f i) (h i) (both-left (eqb (f i) (h i)) (agree f h (suc i) n) t) ∙ ap h (sym (add-zero i))
+    ap f (add-zero i) ∙ eqb→eq (f i) (h i) (T-first (eqb (f i) (h i)) (agree f h (suc i) n) t) ∙ ap h (sym (add-zero i))
 agree-from f h i (suc n) t (suc k) l =
     let e : i + suc k ≡ suc i + k = add-suc i k ∙ sym (suc-add i k) in
-    ap f e ∙ agree-from f h (suc i) n (both-right (eqb (f i) (h i)) (agree f h (suc i) n) t) k (le-of-suc-le-suc l) ∙ ap h (sym e)
+    ap f e ∙ agree-from f h (suc i) n (T-second (eqb (f i) (h i)) (agree f h (suc i) n) t) k (le-of-suc-le-suc l) ∙ ap h (sym e)
 
 pub agree-at : (f h : ℕ → ℕ) (n : ℕ) → T (agree f h 0 n) → (k : ℕ) → k < n → f k ≡ h k
 agree-at f h n t k l = ap f (sym (zero-add k)) ∙ agree-from f h 0 n t k l ∙ ap h (zero-add k)

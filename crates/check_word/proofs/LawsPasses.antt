@@ -3,18 +3,17 @@
 use mathlib.Core.Path.{_≡_, refl, sym, ap, ap₂, _∙_, subst}
 use mathlib.Core.Bool.{Bool, true, false, _&&_}
 use mathlib.Core.List.{List, [], _∷_, _++_}
-use Prim.Native.Nat.{ℕ, zero, suc, _+_, _-_, _*_, _/_, _%_, _<_, _≤_}
+use Prim.Native.Nat.{ℕ, suc, _+_, _-_, _*_, _/_, _%_, _<_, _≤_}
 use native.Mathlib.Nat.{div-add-mod'}
-use native.Mathlib.Numerals.{add-one}
 use native.Mathlib.Omega.{arith}
 use borrow.Author.Tests.{le-leb, leb-true, eq-eqb, eqb-true}
 use lib.Dec.{eqb, leb}
 use lib.Arith.{digits-div, digits-mod}
-use lib.ListN.{length, take, drop, getD, length-append, length-drop, take-append-drop, drop-of-length-le}
+use lib.ListN.{length, take, drop, getD, length-append, take-append-drop, drop-of-length-le}
 use lib.Seq.{take-at, drop-cons, getD-append-add}
 use Rattle.bits.specs.Bits.{Below}
 use Rattle.bits.proofs.LawsBelow.{below-at}
-use Rattle.check_word.specs.Check.{checkWord, checkBy, generator, bytesOf, passes}
+use Rattle.check_word.specs.Check.{checkWord, generator, bytesOf, passes}
 use Rattle.check_word.specs.Finds.{Passes}
 
 and-both : (a b : Bool) → a && b ≡ true → (a ≡ true) × (b ≡ true)

@@ -6,14 +6,13 @@ use mathlib.Core.List.{List, [], _∷_, _++_}
 use Prim.Native.Nat.{ℕ, zero, suc, _+_, _*_, _/_, _%_, _^_, _<_, _≤_}
 use native.Mathlib.Nat.{mod-lt, add-zero, lt-of-lt-of-le}
 use native.Mathlib.Omega.{arith}
-use lib.Dec.{T, lit<}
+use lib.Dec.{T}
 use lib.ListN.{length, take, drop}
 use lib.Pow.{pow-pos, pow-mono}
 use lib.Bits.{bitXor, xor-lt, xor-comm, xor-zero-r, xor-shifted}
-use Rattle.bits.specs.Bits.{bits, Below}
-use Rattle.check_word.specs.Check.{fed, feed}
-use Rattle.check_word.specs.Eight.{after, big, folded, joined, Stands}
-use Rattle.check_word.specs.Turn.{byteAt, mirror, mirrors, raw, shown, push, pushes, horner, chunks}
+use Rattle.bits.specs.Bits.{Below}
+use Rattle.check_word.specs.Eight.{big, folded, joined, Stands}
+use Rattle.check_word.specs.Turn.{byteAt, mirror, mirrors, shown, push, pushes, horner, chunks}
 use Rattle.check_word.specs.declared.window.Window.{Window}
 use Rattle.check_word.proofs.LawsXor.{xor-assoc}
 use Rattle.check_word.proofs.LawsLinear.{Linear, by-basis, agree, agree-at, id-linear, then-linear, sum-linear, shr-linear, mod-linear, shl-linear}

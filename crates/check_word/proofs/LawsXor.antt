@@ -1,6 +1,6 @@
 -- Exclusive or: associative, its own inverse, and a product by a bit passes through it.
 -- Assumes nothing.
-use mathlib.Core.Path.{_≡_, refl, sym, ap, ap₂, _∙_, subst}
+use mathlib.Core.Path.{_≡_, refl, sym, ap, ap₂, _∙_}
 use Prim.Native.Nat.{ℕ, zero, suc, _+_, _*_, _/_, _%_, _<_}
 use native.Mathlib.Nat.{not-suc-le-zero, le-of-suc-le-suc, mod-lt, zero-mul, one-mul, add-zero, zero-lt-suc}
 use lib.Arith.{bin-ind}

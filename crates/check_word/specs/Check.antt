@@ -34,6 +34,9 @@ checkWord message = checkBy generator message
 abbrev pub bytesOf : ℕ → List ℕ
 bytesOf check = check / 256 ∷ check % 256 ∷ []
 
+abbrev pub checkLength : ℕ
+checkLength = 2
+
 -- whether a string is a message followed by its check word: the last two bytes are the check word of those before them
 unfoldable pub passes : List ℕ → Bool
-passes s = leb 2 (length s) && eqb (checkWord (take (length s - 2) s)) (getD s (length s - 2) 0 * 256 + getD s (length s - 1) 0)
+passes s = leb checkLength (length s) && eqb (checkWord (take (length s - checkLength) s)) (getD s (length s - 2) 0 * 256 + getD s (length s - 1) 0)

@@ -27,14 +27,14 @@ fn finish(s: u64) -> u16
     ((d ^ ((d << 5) ^ (d << 12))) % 65536) as u16
 }
 
-pub fn wide(b: u8) -> u64
+pub(crate) fn wide(b: u8) -> u64
     ensures { λ q. ⌜ (q ≡ b) × (q < 256) ⌝ }
 {
     b as u64
 }
 
 // The eight bytes of `s` from `i` on, as a number.
-pub fn load(s: &[u8], i: usize) -> u64
+pub(crate) fn load(s: &[u8], i: usize) -> u64
     requires { ⌜ i + 8 ≤ length (now s) ⌝ }
     ensures { λ q. ⌜ q ≡ big (take 8 (drop i (now (s .entry)))) ⌝ }
 {
@@ -55,14 +55,14 @@ fn next(r: u16, b: u8) -> u16
 }
 
 // The word that stands for the register after eight bytes more.
-pub fn step(t: u64, w: u64) -> u64
+pub(crate) fn step(t: u64, w: u64) -> u64
     ensures { λ q. ⌜ q ≡ joined t w ⌝ }
 {
     fold(t) ^ w
 }
 
 // The check word of `s`, where `t` stands for the register after the first `from` bytes.
-pub fn ends(s: &[u8], from: usize, t: u64) -> u16
+pub(crate) fn ends(s: &[u8], from: usize, t: u64) -> u16
     requires { ⌜ (from ≤ length (now s)) × Stands (now s) from t ⌝ }
     ensures { λ r. ⌜ r ≡ checkWord (now (s .entry)) ⌝ }
 {
@@ -84,7 +84,7 @@ pub fn ends(s: &[u8], from: usize, t: u64) -> u16
 const ALL_ONES: u64 = 33999;
 
 // The check word of `s`.
-pub fn check(s: &[u8]) -> u16
+pub(crate) fn check(s: &[u8]) -> u16
     ensures { λ r. ⌜ r ≡ checkWord (now (s .entry)) ⌝ }
 {
     ends(s, 0, ALL_ONES)

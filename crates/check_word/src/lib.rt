@@ -7,6 +7,9 @@ ghost use Rattle.check_word.specs.Check as check;
 mod eight;
 mod window;
 
+// The length of a check word.
+pub const CHECK_BYTES: usize = 2;
+
 // The check word of a message.
 pub fn check_word(message: &[u8]) -> u16
     ensures { λ r. ⌜ r ≡ checkWord (now (message .entry)) ⌝ }
@@ -18,10 +21,10 @@ pub fn check_word(message: &[u8]) -> u16
 pub fn passes(s: &[u8]) -> bool
     ensures { λ r. ⌜ r ≡ check.passes (now (s .entry)) ⌝ }
 {
-    if s.len() < 2 {
+    if s.len() < CHECK_BYTES {
         return false;
     }
-    let end = s.len() - 2;
+    let end = s.len() - CHECK_BYTES;
     let high = s[end] as u16;
     let low = s[end + 1] as u16;
     check_word(&s[..end]) == high * 256 + low

@@ -174,7 +174,7 @@ const ALL_ONES: u64 = 14953076662776889344;
 const LEAST: usize = 256;
 
 // The check word of `s`.
-pub fn check(s: &[u8]) -> u16
+pub(crate) fn check(s: &[u8]) -> u16
     ensures { λ r. ⌜ r ≡ checkWord (now (s .entry)) ⌝ }
 {
     if s.len() < LEAST {

@@ -1,8 +1,8 @@
 -- What a branch returns is what a choice of specs/ picks. The branch's test is r, often a call's result, and b is what the call ensures of
 -- it; where the test stands in the code itself, r ≡ b is `refl` and the other premise comes of `lt-ltb`, `eq-eqb` and their like.
 -- Assumes nothing.
-use mathlib.Core.Path.{_≡_, refl, sym, ap, _∙_, subst}
-use mathlib.Core.Bool.{Bool, true, false, _&&_, _||_}
+use mathlib.Core.Path.{_≡_, refl, sym, _∙_, subst}
+use mathlib.Core.Bool.{Bool, true, false}
 use Rattle.ground.specs.Choice.{pick}
 
 pub yes : {X : Type 0} {r b : Bool} {x a : X} (d : X) → r ≡ b → r ≡ true → x ≡ a → x ≡ pick b a d
@@ -15,19 +15,3 @@ no {X} {r} {b} {x} {d} a e t h = subst (λ (z : Bool). x ≡ pick z a d) (sym t 
 pub either : {X : Type 0} (P : X → Type 0) (t : Bool) {a d : X} → (t ≡ true → P a) → (t ≡ false → P d) → P (pick t a d)
 either P true f g = f refl
 either P false f g = g refl
-
--- tests joined
-pub both : {a b : Bool} → a ≡ true → b ≡ true → (a && b) ≡ true
-both {a} {b} ha hb = ap (λ (x : Bool). x && b) ha ∙ hb
-
-pub split : (a b : Bool) → (a && b) ≡ true → (a ≡ true) × (b ≡ true)
-split true b h = (refl, h)
-split false b h = let e : false ≡ true = h in (cc, cc)
-
-pub not-second : (a : Bool) {b : Bool} → b ≡ false → (a && b) ≡ false
-not-second true h = h
-not-second false h = refl
-
-pub neither : (a b : Bool) → (a || b) ≡ false → (a ≡ false) × (b ≡ false)
-neither true b h = let e : true ≡ false = h in (cc, cc)
-neither false b h = (refl, h)

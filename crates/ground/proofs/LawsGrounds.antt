@@ -10,7 +10,8 @@ use lib.Dec.{eqb}
 use borrow.Author.Tests.{eqb-true, eqb-false, eq-eqb, ne-eqb, not-true}
 use Rattle.ground.specs.Choice.{pick}
 use Rattle.ground.specs.Grounds.{Ground, firstOf, NoneHolds}
-use Rattle.ground.proofs.LawsChoice.{yes, no, either, split}
+use Rattle.ground.proofs.LawsChoice.{yes, no, either}
+use Rattle.ground.proofs.LawsTests.{split}
 
 -- none has the number 0, which is acceptance
 abbrev pub numbered : List Ground → Bool
@@ -78,12 +79,12 @@ first-holds (b ∷ bs) g after n d e =
     go true h f e k = absurd (f (sym e))
     go false h f e k = let r = k e in ((h, r .0), r .1)
 
--- a number is given exactly where its ground holds and none before it does
-pub exactly : (gs before : List Ground) (g : Ground) (after : List Ground) → numbered gs ≡ true → distinct gs ≡ true → gs ≡ before ++ (g ∷ after)
-    → (firstOf gs ≡ g .number) ↔ (NoneHolds before × (g .holds ≡ true))
-exactly gs before g after n d e = (
-  λ f. first-holds before g after (sym (ap numbered e) ∙ n) (sym (ap distinct e) ∙ d) (sym (ap firstOf e) ∙ f),
-  λ h. ap firstOf e ∙ first-is before g after (h .0) (h .1),
+-- the number of the first ground is given exactly where that holds and none before it does
+pub exactly : (gs : List Ground) → numbered gs ≡ true → distinct gs ≡ true → {given : ℕ} → given ≡ firstOf gs
+    → (before : List Ground) (g : Ground) (after : List Ground) → gs ≡ before ++ (g ∷ after) → (given ≡ g .number) ↔ (NoneHolds before × (g .holds ≡ true))
+exactly gs n d m before g after e = (
+  λ f. first-holds before g after (sym (ap numbered e) ∙ n) (sym (ap distinct e) ∙ d) (sym (ap firstOf e) ∙ sym m ∙ f),
+  λ h. m ∙ ap firstOf e ∙ first-is before g after (h .0) (h .1),
 )
 
 -- where x and y are equal if n is 0, so are what is picked by it

@@ -1,2 +1,3 @@
 pub mod LawsChoice
 pub mod LawsGrounds
+pub mod LawsTests

@@ -11,7 +11,7 @@ use lib.Seq.{length-take-le}
 use borrow.Author.Tests.{ltb-false, le-ltb, not-true, not-false}
 use Rattle.ground.specs.Choice.{pick}
 use Rattle.ground.specs.Grounds.{NoneHolds}
-use Rattle.ground.proofs.LawsChoice.{neither}
+use Rattle.ground.proofs.LawsTests.{neither}
 use Rattle.bits.specs.Bits.{Below}
 use Rattle.bits.proofs.LawsBelow.{below-take, below-drop}
 use Rattle.check_word.specs.Check.{generator, passes}

@@ -8,7 +8,8 @@ use native.Mathlib.Omega.{arith}
 use lib.Dec.{lit≤, eqb, leb}
 use borrow.Author.Tests.{le-ltb, le-leb, leb-true, eqb-true, eq-eqb, ne-eqb}
 use Rattle.ground.specs.Grounds.{NoneHolds}
-use Rattle.ground.proofs.LawsChoice.{yes, no, either, both, split}
+use Rattle.ground.proofs.LawsChoice.{yes, no, either}
+use Rattle.ground.proofs.LawsTests.{both, split}
 use Rattle.row.specs.Promises.{Takes}
 use Rattle.row.proofs.LawsRow.{suits-takes, takes-suits}
 use Rattle.header.specs.Says.{numberOf, blockIn, sizeIn, countIn, extraWords, wordsIn, versionIn, rowIn}

@@ -8,7 +8,8 @@ use lib.Dec.{ltb}
 use lib.ListN.{length}
 use borrow.Author.Tests.{lt-ltb, le-ltb, ltb-false, eqb-true, eq-eqb, ne-eqb, not-false}
 use Rattle.ground.specs.Grounds.{firstOf, NoneHolds}
-use Rattle.ground.proofs.LawsChoice.{yes, no, neither}
+use Rattle.ground.proofs.LawsChoice.{yes, no}
+use Rattle.ground.proofs.LawsTests.{neither}
 use Rattle.row.specs.Rows.{permits}
 use Rattle.header.specs.Says.{headerLength, blockIn, sizeIn, countIn, extraWords, wordsIn, versionIn, rowIn}
 use Rattle.header.specs.Plans.{wrongCount, headerGrounds, planGrounds}

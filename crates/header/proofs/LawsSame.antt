@@ -10,7 +10,8 @@ use lib.Dec.{eqb}
 use lib.ListN.{length, drop, getD, drop-of-length-le}
 use lib.Seq.{drop-cons}
 use borrow.Author.Tests.{eqb-true, eq-eqb, ne-eqb, le-leb}
-use Rattle.ground.proofs.LawsChoice.{yes, split}
+use Rattle.ground.proofs.LawsChoice.{yes}
+use Rattle.ground.proofs.LawsTests.{split}
 use Rattle.room.specs.Laid.{laid, laidInside}
 use Rattle.header.specs.Copies.{sameAs}
 

@@ -1,6 +1,6 @@
 -- What reading the copies and reading a header promise.
 -- Assumes nothing.
-use Prim.Native.Nat.{ℕ}
+use Prim.Native.Nat.{ℕ, _-_}
 use mathlib.Core.Path.{_≡_}
 use mathlib.Core.List.{List}
 use lib.ListN.{length, take, set}
@@ -10,7 +10,7 @@ use Rattle.row.specs.Rows.{recordsIn}
 use Rattle.row.specs.Field.{fieldBytes}
 use Rattle.header.specs.declared.Common.{Common}
 use Rattle.header.specs.declared.Plan.{Plan}
-use Rattle.header.specs.Says.{headerLength, blockIn, sizeIn, wordsIn, versionIn}
+use Rattle.header.specs.Says.{headerLength, blockIn, sizeIn, wordsIn, versionIn, validAt}
 use Rattle.header.specs.Copies.{copyAt, commonOf, refusedCommon}
 use Rattle.header.specs.Plans.{planOf, refusedPlan}
 use Rattle.header.specs.Agreed.{Agreed}
@@ -39,4 +39,4 @@ pub record GrantsAsked : Type 0 where
 
 -- data marked not valid is read like any other: what word 9 holds changes no plan
 abbrev pub MarkUnread : Type 0
-MarkUnread = (h : List ℕ) (mark : ℕ) → planOf (set h 8 mark) ≡ planOf h
+MarkUnread = (h : List ℕ) (mark : ℕ) → planOf (set h (validAt - 1) mark) ≡ planOf h

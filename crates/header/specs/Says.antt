@@ -4,7 +4,7 @@ use Prim.Native.Nat.{ℕ, _+_, _-_, _*_}
 use mathlib.Core.Bool.{_&&_}
 use mathlib.Core.List.{List}
 use lib.Dec.{eqb, leb}
-use lib.ListN.{getD}
+use lib.ListN.{getD, take, drop}
 use Rattle.ground.specs.Choice.{pick}
 use Rattle.row.specs.declared.Row.{Row}
 use Rattle.row.specs.Rows.{rowOf}
@@ -44,6 +44,13 @@ wordsIn header = countIn header - extraWords
 -- word 8, the version
 abbrev pub versionIn : List ℕ → ℕ
 versionIn header = word 8 header
+
+-- word 9, whether data is marked valid, and words 17 to 24, the SPS time: a time tag. No plan goes by them
+abbrev pub validAt : ℕ
+validAt = 9
+
+abbrev pub timeIn : List ℕ → List ℕ
+timeIn header = take 8 (drop (17 - 1) header)
 
 -- the row that a header asks for
 abbrev pub rowIn : List ℕ → Row

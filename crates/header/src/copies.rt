@@ -8,13 +8,12 @@ ghost use Rattle.ground.specs.Choice.{pick};
 ghost use Rattle.check_word.specs.Check.{passes};
 ghost use Rattle.header.specs.Says.{headerLength};
 ghost use Rattle.header.specs.Copies.{copiesLength, copyAt, sameAs, refusedCommon, agreedOf};
+use crate::COPY_BYTES;
 use crate::Common;
 use crate::HEADER_BYTES;
 
-const COPY_BYTES: usize = 30;
-
 // Copy k, from 0.
-pub fn copy_at(block: &[u8], k: usize) -> [u8; 30]
+pub(crate) fn copy_at(block: &[u8], k: usize) -> [u8; 30]
     requires { ⌜ k < 3 ⌝ }
     requires { ⌜ copiesLength ≤ length (now block) ⌝ }
     ensures { λ r. ⌜ r ≡ copyAt k (now (block .entry)) ⌝ }
@@ -74,7 +73,7 @@ fn header_of(copies: [[u8; 30]; 3], first: bool, second: bool) -> [u8; 28]
     front(copies[2])
 }
 
-pub fn refused(number: u8) -> Common
+pub(crate) fn refused(number: u8) -> Common
     ensures { λ r. ⌜ r ≡ refusedCommon number ⌝ }
 {
     let header = [0u8; 28];
@@ -88,7 +87,7 @@ pub fn refused(number: u8) -> Common
 }
 
 // What three copies have in common.
-pub fn agree(a: [u8; 30], b: [u8; 30], c: [u8; 30]) -> Common
+pub(crate) fn agree(a: [u8; 30], b: [u8; 30], c: [u8; 30]) -> Common
     ensures { λ r. ⌜ r ≡ agreedOf a b c ⌝ }
 {
     let copies = [a, b, c];

@@ -7,8 +7,10 @@ mod copies;
 mod plans;
 mod says;
 
-// A header as it is given back and lent, without its check word; and the three copies in front of a field.
+// A header as it is given back and lent, without its check word; a copy of it with one; and the three copies in front of a field.
 pub const HEADER_BYTES: usize = 28;
+
+pub const COPY_BYTES: usize = 30;
 
 pub const COPIES_BYTES: usize = 90;
 

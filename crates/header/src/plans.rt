@@ -48,7 +48,7 @@ fn wrong_count(header: &[u8]) -> bool
 }
 
 // The first ground that refuses a header.
-pub fn refusal(header: &[u8]) -> u8
+pub(crate) fn refusal(header: &[u8]) -> u8
     requires { ⌜ length (now header) ≡ headerLength ⌝ }
     ensures { λ r. ⌜ r ≡ firstOf (headerGrounds (now (header .entry))) ⌝ }
 {
@@ -67,7 +67,7 @@ pub fn refusal(header: &[u8]) -> u8
     ground::ACCEPTED
 }
 
-pub fn refused(number: u8) -> Plan
+pub(crate) fn refused(number: u8) -> Plan
     ensures { λ r. ⌜ r ≡ refusedPlan number ⌝ }
 {
     Plan {
@@ -81,7 +81,7 @@ pub fn refused(number: u8) -> Plan
     }
 }
 
-pub fn granted(header: &[u8]) -> Plan
+pub(crate) fn granted(header: &[u8]) -> Plan
     requires { ⌜ length (now header) ≡ headerLength ⌝ }
     requires { ⌜ firstOf (headerGrounds (now header)) ≡ 0 ⌝ }
     ensures { λ r. ⌜ r ≡ grantedPlan (now (header .entry)) ⌝ }

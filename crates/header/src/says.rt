@@ -6,13 +6,13 @@ ghost use Rattle.header.specs.Says.{headerLength, numberOf, blockIn, cou
 use row::Row;
 
 // The bytes that hold words 1, 2, 3 with 4, and 8.
-pub const ID: usize = 0;
+pub(crate) const ID: usize = 0;
 
-pub const SIZE: usize = 1;
+pub(crate) const SIZE: usize = 1;
 
-pub const COUNT: usize = 2;
+pub(crate) const COUNT: usize = 2;
 
-pub const VERSION: usize = 7;
+pub(crate) const VERSION: usize = 7;
 
 // The number of a block id; 255 for one that no block has.
 fn number_of(id: u8) -> u8
@@ -25,7 +25,7 @@ fn number_of(id: u8) -> u8
     }
 }
 
-pub fn block_in(header: &[u8]) -> u8
+pub(crate) fn block_in(header: &[u8]) -> u8
     requires { ⌜ length (now header) ≡ headerLength ⌝ }
     ensures { λ r. ⌜ r ≡ blockIn (now (header .entry)) ⌝ }
 {
@@ -39,14 +39,14 @@ fn wide(byte: u8) -> u32
 }
 
 // As it stands there: of the field's words and two more.
-pub fn count_in(header: &[u8]) -> u32
+pub(crate) fn count_in(header: &[u8]) -> u32
     requires { ⌜ length (now header) ≡ headerLength ⌝ }
     ensures { λ r. ⌜ r ≡ countIn (now (header .entry)) ⌝ }
 {
     wide(header[COUNT]) * 256 + wide(header[COUNT + 1])
 }
 
-pub fn row_in(header: &[u8]) -> Row
+pub(crate) fn row_in(header: &[u8]) -> Row
     requires { ⌜ length (now header) ≡ headerLength ⌝ }
     ensures { λ r. ⌜ r ≡ rowIn (now (header .entry)) ⌝ }
 {

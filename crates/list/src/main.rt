@@ -1,7 +1,10 @@
 // Lists a recording: the file that the argument names, or standard input. A line a field as it comes, with memory for one field and
 // its words; what a field is, and the numbers of its line, are the library's.
-ghost use Prim.Native.Nat.{_+_, _<_, _≤_};
+ghost use mathlib.Core.Path.{_≡_};
+ghost use mathlib.Core.Logic.{_⊎_};
+ghost use Prim.Native.Nat.{_<_, _≤_};
 ghost use lib.ListN.{length};
+ghost use Rattle.recording.specs.Lines.{mostFields};
 use libc::STDIN_FILENO;
 use libc::STDOUT_FILENO;
 use recording::Found;
@@ -21,8 +24,8 @@ fn write_number(n: u64) {
 }
 
 // Three dashes stand for the numbers of a field that is refused.
-fn write_line(seq: u64, line: Line) {
-    write_number(seq);
+fn write_line(line: Line) {
+    write_number(line.seq);
     if line.answer == ground::ACCEPTED {
         write(b" ");
         write_number(line.block as u64);
@@ -65,26 +68,28 @@ fn has_failed(fd: i32) -> bool {
     libc::read(fd, &mut one) < 0
 }
 
-// One field: lists it and answers true, or says how the recording ends.
-fn list_field(fd: i32, name: &[u8], seen: u64, field: &mut [u8], room: &mut [u16]) -> bool
-    requires { ⌜ seen < 18446744073709551615 ⌝ }
+// One field: lists it and answers its number, or says how the recording ends and answers 0.
+fn list_field(fd: i32, name: &[u8], seen: u64, field: &mut [u8], room: &mut [u16]) -> u64
+    requires { ⌜ seen < mostFields ⌝ }
     requires { ⌜ 65538 ≤ length (now field) ⌝ }
+    ensures { λ r. ⌜ (r ≡ 0) ⊎ (seen < r) ⌝ }
 {
     let got = read_field(fd, field);
     match recording::next_field(&field[..got], 0) {
         Found::Whole(tag, start, length) => {
             let end = start + length;
-            let line = recording::line_of(tag, &field[start..end], room);
-            write_line(seen + 1, line);
-            true
+            let line = recording::line_of(seen, tag, &field[start..end], room);
+            let seq = line.seq;
+            write_line(line);
+            seq
         }
         Found::Cut => {
             finish(fd, name, b"cut ", seen);
-            false
+            0
         }
         Found::End => {
             finish(fd, name, b"end ", seen);
-            false
+            0
         }
     }
 }
@@ -100,13 +105,17 @@ fn finish(fd: i32, name: &[u8], how: &[u8], fields: u64) {
     write(b"\n");
 }
 
-// A proved loop has to end, and nothing says that a recording does: so it counts its fields, to a number that none has.
+// A proved loop has to end, and nothing says that a recording does: so it goes to a number of fields that none has.
 fn list_fields(fd: i32, name: &[u8], field: &mut [u8], room: &mut [u16])
     requires { ⌜ 65538 ≤ length (now field) ⌝ }
 {
-    let mut seq: u64 = 0;
-    while seq < u64::MAX && list_field(fd, name, seq, field, room) {
-        seq += 1;
+    let mut seen: u64 = 0;
+    while seen < u64::MAX {
+        let seq = list_field(fd, name, seen, field, room);
+        if seq == 0 {
+            return;
+        }
+        seen = seq;
     }
 }
 

@@ -1,17 +1,10 @@
 -- A test at each number below a bound, which antt computes, and what it shows of any one of them.
 -- Assumes nothing.
-use mathlib.Core.Bool.{Bool, true, false, _&&_}
+use mathlib.Core.Bool.{Bool, true, _&&_}
 use Prim.Native.Nat.{ℕ, zero, suc, _<_}
 use native.Mathlib.Nat.{le-of-suc-le-suc, not-suc-le-zero}
 use lib.Dec.{T}
-
-pub and-left : (a b : Bool) → T (a && b) → T a
-and-left true b t = tt
-and-left false b t = t
-
-pub and-right : (a b : Bool) → T (a && b) → T b
-and-right true b t = t
-and-right false b t = absurd t
+use Rattle.ground.proofs.LawsTests.{T-first, T-second}
 
 abbrev pub below : ℕ → (ℕ → Bool) → Bool
 below zero p = true
@@ -19,6 +12,6 @@ below (suc n) p = p zero && below n (λ k. p (suc k))
 
 pub below-at : (n : ℕ) (p : ℕ → Bool) → T (below n p) → (k : ℕ) → k < n → T (p k)
 below-at zero p t k h = absurd (not-suc-le-zero h)
-below-at (suc n) p t zero h = and-left (p zero) (below n (λ k. p (suc k))) t
+below-at (suc n) p t zero h = T-first (p zero) (below n (λ k. p (suc k))) t
 below-at (suc n) p t (suc k) h =
-    below-at n (λ k. p (suc k)) (and-right (p zero) (below n (λ k. p (suc k))) t) k (le-of-suc-le-suc h)
+    below-at n (λ k. p (suc k)) (T-second (p zero) (below n (λ k. p (suc k))) t) k (le-of-suc-le-suc h)

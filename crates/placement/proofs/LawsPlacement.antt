@@ -10,7 +10,7 @@ use lib.Dec.{ltb}
 use lib.ListN.{getD}
 use borrow.Author.Tests.{lt-ltb, le-ltb, ltb-true, ltb-false, eq-eqb, ne-eqb}
 use Rattle.ground.specs.Choice.{pick}
-use Rattle.placement.specs.Placement.{_det_, heldIn, recordsIn, noRecord, accepted, refusedBy, placeOf}
+use Rattle.placement.specs.Placement.{_det_, heldIn, recordsHeld, noRecord, accepted, refusedBy, placeOf}
 
 lt-or-le : (a b : ℕ) (t : Bool) → ltb a b ≡ t → (a < b) ⊎ (b ≤ a)
 lt-or-le a b true e = inl (ltb-true a b e)
@@ -36,12 +36,12 @@ module _ (block version k : ℕ) where
     last-test true e = simp (le-ltb 11 block hb, le-ltb 3 version hv, e)
     last-test false e = simp (le-ltb 11 block hb, le-ltb 3 version hv, e)
 
-    pub absent : (1 ≤ k → k ≤ recordsIn block version → ⊥) → placeOf block version k ≡ refusedBy 13
+    pub absent : (1 ≤ k → k ≤ recordsHeld block version → ⊥) → placeOf block version k ≡ refusedBy 13
     absent h =
         last-test true
-        (⊎-elim (λ e. simp (eq-eqb k 0 e)) (λ l. simp (lt-ltb (recordsIn block version) k l, or-true))
-        (zero-or-above (recordsIn block version) k h))
+        (⊎-elim (λ e. simp (eq-eqb k 0 e)) (λ l. simp (lt-ltb (recordsHeld block version) k l, or-true))
+        (zero-or-above (recordsHeld block version) k h))
 
-    pub present : 1 ≤ k → k ≤ recordsIn block version
+    pub present : 1 ≤ k → k ≤ recordsHeld block version
         → placeOf block version k ≡ accepted (getD (heldIn block version) (k - 1) (0 det 0))
-    present l m = last-test false (simp (ne-eqb k 0 (λ e. omega arith), le-ltb (recordsIn block version) k m))
+    present l m = last-test false (simp (ne-eqb k 0 (λ e. omega arith), le-ltb (recordsHeld block version) k m))

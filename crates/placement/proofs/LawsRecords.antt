@@ -7,23 +7,23 @@ use native.Mathlib.Omega.{arith}
 use lib.Dec.{leb, leb→le}
 use borrow.Author.Tests.{le-leb, ne-eqb}
 use Rattle.row.specs.Rows as rows
-use Rattle.placement.specs.Placement.{recordsIn}
+use Rattle.placement.specs.Placement.{recordsHeld}
 use Rattle.placement.proofs.KeepsPlacement.{counts}
 use Rattle.placement.proofs.LawsBelow.{below-at}
 use Rattle.placement.proofs.LawsPlacement.{zero-or-above}
 
-pub at-most-four : (block version : ℕ) → block ≤ 11 → version ≤ 3 → recordsIn block version ≤ 4
+pub at-most-four : (block version : ℕ) → block ≤ 11 → version ≤ 3 → recordsHeld block version ≤ 4
 unfolding rows.recordsIn
 at-most-four block version hb hv =
     omega (arith, counts block version hb hv, leb→le (rows.recordsIn block 0) 4 (below-at 12 (λ b. leb (rows.recordsIn b 0) 4) tt block (omega arith)))
 
-pub one-record : (block : ℕ) → 3 ≤ block → block ≤ 10 → recordsIn block 0 ≡ 1
+pub one-record : (block : ℕ) → 3 ≤ block → block ≤ 10 → recordsHeld block 0 ≡ 1
 unfolding rows.recordsIn
 one-record block lo hi =
     counts block 0 (omega arith) (omega arith)
     ∙ simp (ne-eqb block 1 (λ e. omega arith), ne-eqb block 2 (λ e. omega arith), le-leb 3 block lo, le-leb block 10 hi)
 
-pub no-records : (block version : ℕ) → block ≤ 11 → version ≤ 3 → (1 ≤ block → block ≤ 10 → ⊥) → recordsIn block version ≡ 0
+pub no-records : (block version : ℕ) → block ≤ 11 → version ≤ 3 → (1 ≤ block → block ≤ 10 → ⊥) → recordsHeld block version ≡ 0
 unfolding rows.recordsIn
 no-records block version hb hv h =
     counts block version hb hv

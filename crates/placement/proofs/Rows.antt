@@ -9,17 +9,18 @@ use lib.Dec.{T, eqb, eqb→eq}
 use Rattle.placement.specs.declared.Placed.{Placed}
 use Rattle.placement.specs.Placement.{placeOf}
 use Rattle.placement.specs.Table.{pairAt, namedBy}
-use Rattle.placement.proofs.LawsBelow.{and-left, and-right, below, below-at}
+use Rattle.ground.proofs.LawsTests.{T-first, T-second}
+use Rattle.placement.proofs.LawsBelow.{below, below-at}
 
 abbrev same : Placed → Placed → Bool
 same p q = eqb (p .number) (q .number) && (eqb (p .channel) (q .channel) && eqb (p .detector) (q .detector))
 
 same-eq : (p q : Placed) → T (same p q) → p ≡ q
 same-eq p q t =
-    let rest = and-right (eqb (p .number) (q .number)) (eqb (p .channel) (q .channel) && eqb (p .detector) (q .detector)) t in
-    let n : p .number ≡ q .number = eqb→eq (p .number) (q .number) (and-left (eqb (p .number) (q .number)) _ t) in
-    let c : p .channel ≡ q .channel = eqb→eq (p .channel) (q .channel) (and-left (eqb (p .channel) (q .channel)) _ rest) in
-    let d : p .detector ≡ q .detector = eqb→eq (p .detector) (q .detector) (and-right (eqb (p .channel) (q .channel)) _ rest) in
+    let rest = T-second (eqb (p .number) (q .number)) (eqb (p .channel) (q .channel) && eqb (p .detector) (q .detector)) t in
+    let n : p .number ≡ q .number = eqb→eq (p .number) (q .number) (T-first (eqb (p .number) (q .number)) _ t) in
+    let c : p .channel ≡ q .channel = eqb→eq (p .channel) (q .channel) (T-first (eqb (p .channel) (q .channel)) _ rest) in
+    let d : p .detector ≡ q .detector = eqb→eq (p .detector) (q .detector) (T-second (eqb (p .channel) (q .channel)) _ rest) in
     λ i. record { number = n i; channel = c i; detector = d i }
 
 -- at each of a row's pairs, in two versions from the first

@@ -38,12 +38,12 @@ visible block = take 1 (drop (block - 3) (map (λ d. 1 det d) (5 ∷ 6 ∷ 7 ∷
 unfoldable pub heldIn : ℕ → ℕ → List Held
 heldIn block version = pick (ltb block 3) (pick (ltb version 2) (early block) (late block)) (visible block)
 
-unfoldable pub recordsIn : ℕ → ℕ → ℕ
-recordsIn block version = length (heldIn block version)
+unfoldable pub recordsHeld : ℕ → ℕ → ℕ
+recordsHeld block version = length (heldIn block version)
 
 -- Block without records, or no such record. Records count from 1.
 abbrev pub noRecord : ℕ → ℕ → ℕ → Bool
-noRecord block version k = eqb k 0 || ltb (recordsIn block version) k
+noRecord block version k = eqb k 0 || ltb (recordsHeld block version) k
 
 -- A placement asked for by block, version and record tests 4, 5, 13.
 abbrev pub groundOf : ℕ → ℕ → ℕ → ℕ

@@ -5,17 +5,17 @@ use Prim.Native.Nat.{ℕ, _≤_, _<_}
 use mathlib.Core.Path.{_≡_}
 use mathlib.Core.Logic.{_⊎_, _↔_}
 use Rattle.row.specs.Rows as rows
-use Rattle.placement.specs.Placement.{recordsIn, placeOf}
+use Rattle.placement.specs.Placement.{recordsHeld, placeOf}
 
 -- A placement is found for as many records as the table of field sizes gives the block: record access and placement agree.
 abbrev pub Counts : Type 0
-Counts = (block version : ℕ) → block ≤ 11 → version ≤ 3 → recordsIn block version ≡ rows.recordsIn block version
+Counts = (block version : ℕ) → block ≤ 11 → version ≤ 3 → recordsHeld block version ≡ rows.recordsIn block version
 
 -- Refusal 13 is given exactly where the record is 0 or above the number that the block has.
 abbrev pub Refuses13 : Type 0
 Refuses13 =
     (block version k : ℕ) → block ≤ 11 → version ≤ 3
-    → (placeOf block version k .number ≡ 13) ↔ ((k ≡ 0) ⊎ (recordsIn block version < k))
+    → (placeOf block version k .number ≡ 13) ↔ ((k ≡ 0) ⊎ (recordsHeld block version < k))
 
 -- Blocks 3 to 10, every version.
 abbrev pub EveryVersion : Type 0

@@ -99,7 +99,8 @@ fn visible(block: u8, record: u8) -> Placed
 // whether that is so. Yaw-flipped (504-02 section 3.2.3; block 0, word 5, first bit) detectors 1 and 2 change places in every
 // infrared channel that has two, and blocks 3 to 10 hold visible detectors 4, 3, 2, 1, 8, 7, 6, 5. With a north-south
 // co-registration offset (sections 3.2.1 and 3.3.6: up to 8 lines either way) block 3 begins with another visible detector, which
-// word 184 of block 0 names. Word 4 of a record's line documentation names the physical detector that it came from.
+// word 184 of block 0 names. Word 4 of a record's line documentation names the detector that it came from, for infrared records as
+// the SPS numbers them, 1 to 8.
 pub fn place(block: u8, version: u8, record: u8) -> Placed
     ensures { λ r. ⌜ r ≡ placeOf block version «record» ⌝ }
 {

@@ -1,1 +1,2 @@
 pub mod LawsNumbers
+pub mod KeepsRows

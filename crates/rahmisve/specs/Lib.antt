@@ -2,3 +2,4 @@ pub mod Numbers
 pub mod Marks
 pub mod Times
 pub mod Watches
+pub mod Promises

@@ -10,8 +10,8 @@ use Rattle.rahmisve.specs.Numbers.{upTo}
 use Rattle.rahmisve.specs.Marks.{mark}
 
 -- The tag of seven numbers, any there are.
-abbrev pub tagOf : (year day hour minute second ms flywheel : ℕ) → Tag
-tagOf year day hour minute second ms flywheel =
+abbrev pub tagOfNumbers : (year day hour minute second ms flywheel : ℕ) → Tag
+tagOfNumbers year day hour minute second ms flywheel =
     record {
       year = upTo 65535 year;
       day = upTo 65535 day;
@@ -25,7 +25,7 @@ tagOf year day hour minute second ms flywheel =
 -- The tag in a row of numbers, from a place on.
 abbrev pub tagFrom : ℕ → List ℕ → Tag
 tagFrom at row =
-    tagOf (getD row at 0) (getD row (at + 1) 0) (getD row (at + 2) 0) (getD row (at + 3) 0) (getD row (at + 4) 0) (getD row (at + 5) 0) (getD row (at + 6) 0)
+    tagOfNumbers (getD row at 0) (getD row (at + 1) 0) (getD row (at + 2) 0) (getD row (at + 3) 0) (getD row (at + 4) 0) (getD row (at + 5) 0) (getD row (at + 6) 0)
 
 -- The numbers of a tag.
 abbrev pub numbersOf : Tag → List ℕ

@@ -22,8 +22,8 @@ abbrev pub watchIn : List ℕ → Watch
 watchIn row = record { opened = not (eqb (getD row 0 0) 0); expected = upTo 255 (getD row 1 0); last = tagFrom 2 row; limit = getD row 9 0 }
 
 -- The numbers of a watch.
-abbrev pub rowOf : Watch → List ℕ
-rowOf w = mark (w .opened) ∷ w .expected ∷ (numbersOf (w .last) ++ (w .limit ∷ []))
+abbrev pub numbersOfWatch : Watch → List ℕ
+numbersOfWatch w = mark (w .opened) ∷ w .expected ∷ (numbersOf (w .last) ++ (w .limit ∷ []))
 
 -- The number of how a scan closed.
 abbrev pub closingCode : Closing → ℕ
@@ -49,8 +49,8 @@ leaves Kept = false
 leaves (Closed why) = false
 
 abbrev pub rowAfter : Stepped → List ℕ → List ℕ
-rowAfter s row = pick (leaves (s .verdict)) row (rowOf (s .next))
+rowAfter s row = pick (leaves (s .verdict)) row (numbersOfWatch (s .next))
 
 -- So does a beginning that is refused.
 abbrev pub rowBegun : Begun → List ℕ → List ℕ
-rowBegun b row = pick (eqb (b .number) 0) (rowOf (b .watch)) row
+rowBegun b row = pick (eqb (b .number) 0) (numbersOfWatch (b .watch)) row

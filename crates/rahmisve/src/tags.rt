@@ -2,7 +2,7 @@
 ghost use mathlib.Core.Path.{_≡_};
 ghost use Rattle.tag.specs.Tags.{readTag, writeTag};
 ghost use Rattle.tag.specs.Times.{elapsedOf};
-ghost use Rattle.rahmisve.specs.Times.{tagOf, tagFrom, numbersOf};
+ghost use Rattle.rahmisve.specs.Times.{tagOfNumbers, tagFrom, numbersOf};
 use crate::numbers::in_byte;
 use crate::numbers::in_pair;
 use crate::numbers::is_on;
@@ -18,7 +18,7 @@ pub(crate) fn tag_of(
     ms: u32,
     flywheel: u32,
 ) -> Tag
-    ensures { λ r. ⌜ r ≡ tagOf year day hour minute second ms flywheel ⌝ }
+    ensures { λ r. ⌜ r ≡ tagOfNumbers year day hour minute second ms flywheel ⌝ }
 {
     Tag {
         year: in_pair(year),

@@ -3,7 +3,7 @@ ghost use mathlib.Core.Path.{_≡_};
 ghost use Rattle.watch.specs.Verdicts.{numberOf};
 ghost use Rattle.watch.specs.Rules.{beginOf, stepOf};
 ghost use Rattle.rahmisve.specs.Numbers.{upTo};
-ghost use Rattle.rahmisve.specs.Watches.{watchIn, rowOf, codeOf, closingCode, leaves, rowAfter, rowBegun};
+ghost use Rattle.rahmisve.specs.Watches.{watchIn, numbersOfWatch, codeOf, closingCode, leaves, rowAfter, rowBegun};
 use crate::numbers::in_byte;
 use crate::numbers::is_on;
 use crate::numbers::marked;
@@ -44,7 +44,7 @@ fn watch_in(row: [u32; 10]) -> Watch
 }
 
 fn row_of(watch: Watch) -> [u32; 10]
-    ensures { λ r. ⌜ r ≡ rowOf watch ⌝ }
+    ensures { λ r. ⌜ r ≡ numbersOfWatch watch ⌝ }
 {
     let last = watch.last;
     [

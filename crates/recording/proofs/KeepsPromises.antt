@@ -1,8 +1,9 @@
--- `foundAt` reads a recording field by field: the bytes behind what came before are those of the next field.
+-- `foundAt` reads a recording field by field: the bytes behind what came before are those of the next field. Each line has the number after
+-- that of the line before it, so that the last one's is the count of the fields.
 -- Assumes nothing.
 use mathlib.Core.Path.{_≡_, refl, sym, ap, ap₂, _∙_}
 use mathlib.Core.Bool.{Bool, true, false}
-use mathlib.Core.List.{List, _++_}
+use mathlib.Core.List.{List, [], _∷_, _++_}
 use Prim.Native.Nat.{ℕ, _+_, _*_, _/_, _%_, _<_, _≤_}
 use native.Mathlib.Nat.{add-zero, div-add-mod'}
 use native.Mathlib.Omega.{arith}
@@ -14,8 +15,10 @@ use Rattle.ground.specs.Choice.{pick}
 use Rattle.ground.proofs.LawsChoice.{yes, no}
 use Rattle.recording.specs.Fields.{Field, written, joined}
 use Rattle.recording.specs.Found.{frontLength, lengthAt, foundAt}
-use Rattle.recording.specs.Promises.{Reads}
-use Rattle.recording.specs.declared.Found.the-variants.{Whole, Cut, End}
+use Rattle.recording.specs.Lines.{mostFields, lineOf, countAfter}
+use Rattle.recording.specs.Promises.{Reads, Counts}
+use Rattle.recording.proofs.LawsLines.{line-seq, seq-next}
+use Rattle.recording.specs.declared.Found.the-variants.{Whole, Cut}
 
 length-written : (f : Field) → length (written f) ≡ frontLength + length (f .body)
 length-written f = omega arith
@@ -86,3 +89,13 @@ reads before = record {
   cut = λ f k some short. cut (joined before) f k some short;
   end = sym (yes _ refl (le-leb (length (joined before)) (length (joined before)) (omega arith)) refl);
 }
+
+count-from : (before : ℕ) (fields : List Field) (room : ℕ) → before + length fields ≤ mostFields → countAfter before fields room ≡ before + length fields
+unfolding countAfter
+count-from before [] room h = sym (add-zero before)
+count-from before (f ∷ fs) room h =
+    let next : lineOf before (f .tag) (f .body) room .seq ≡ before + 1 = line-seq before (f .tag) (f .body) room ∙ seq-next before (omega arith) in
+    ap (λ (n : ℕ). countAfter n fs room) next ∙ count-from (before + 1) fs room (omega arith) ∙ omega arith
+
+pub counts : (fields : List Field) → Counts fields
+counts fields room h = count-from 0 fields room (omega arith) ∙ omega arith

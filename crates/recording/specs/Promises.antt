@@ -1,11 +1,13 @@
--- What `foundAt` finds in a recording: behind the fields before it, the next field, or a cut one, or the end.
+-- What `foundAt` finds in a recording: behind the fields before it, the next field, or a cut one, or the end. What the listing counts: the
+-- complete fields.
 -- Assumes nothing.
-use Prim.Native.Nat.{ℕ, _+_, _<_}
+use Prim.Native.Nat.{ℕ, _+_, _<_, _≤_}
 use mathlib.Core.Path.{_≡_}
 use mathlib.Core.List.{List, _++_}
 use lib.ListN.{length, take, drop}
 use Rattle.recording.specs.Fields.{Field, written, joined}
 use Rattle.recording.specs.Found.{frontLength, foundAt}
+use Rattle.recording.specs.Lines.{mostFields, countAfter}
 use Rattle.recording.specs.declared.Found.the-variants.{Whole, Cut, End}
 
 pub record Reads (before : List Field) : Type 0 where
@@ -18,3 +20,6 @@ pub record Reads (before : List Field) : Type 0 where
   pub cut : (f : Field) (k : ℕ) → 0 < k → k < length (written f)
       → foundAt (joined before ++ take k (written f)) (length (joined before)) ≡ Cut
   pub end : foundAt (joined before) (length (joined before)) ≡ End
+
+abbrev pub Counts : List Field → Type 0
+Counts fields = (room : ℕ) → length fields ≤ mostFields → countAfter 0 fields room ≡ length fields

@@ -5,7 +5,7 @@ ghost use Prim.Native.Nat.{_<_};
 ghost use lib.ListN.{length};
 ghost use Rattle.recording.specs.Fields.{frontOf};
 ghost use Rattle.recording.specs.Found.{foundAt};
-ghost use Rattle.recording.specs.Lines.{refusedLine, lineOf, roomListed};
+ghost use Rattle.recording.specs.Lines.{seqAfter, refusedLine, lineOf, roomListed};
 
 // A tag and a length of two bytes stand in front of a body.
 pub const FRONT: usize = 3;
@@ -54,18 +54,30 @@ pub fn next_field(bytes: &[u8], at: usize) -> Found
 // The tag of a field that holds a block.
 pub const BLOCK: u8 = 1;
 
-// What a field is answered; of a refusal the other numbers are zero, and the listing shows dashes for them.
+// The number of a field, from 1, and what it is answered; of a refusal the other numbers are zero, and the listing shows dashes for them.
 pub struct Line {
+    pub seq: u64,
     pub answer: u8,
     pub block: u8,
     pub version: u8,
     pub words: usize,
 }
 
-fn refused(number: u8) -> Line
-    ensures { λ r. ⌜ r ≡ refusedLine number ⌝ }
+// The number of the field behind so many. No recording has as many as a count can say.
+fn seq_after(before: u64) -> u64
+    ensures { λ r. ⌜ r ≡ seqAfter before ⌝ }
+{
+    if before < u64::MAX {
+        return before + 1;
+    }
+    before
+}
+
+fn refused(seq: u64, number: u8) -> Line
+    ensures { λ r. ⌜ r ≡ refusedLine seq number ⌝ }
 {
     Line {
+        seq: seq,
         answer: number,
         block: 0,
         version: 0,
@@ -73,21 +85,23 @@ fn refused(number: u8) -> Line
     }
 }
 
-// The line of a field, which is read like any block where its tag says that it holds one.
-pub fn line_of(tag: u8, body: &[u8], room: &mut [u16]) -> Line
-    ensures { λ r. ⌜ r ≡ lineOf tag (now (body .entry)) (length (now (room .entry))) ⌝ }
+// The line of the field behind `before` complete ones, which is read like any block where its tag says that it holds one.
+pub fn line_of(before: u64, tag: u8, body: &[u8], room: &mut [u16]) -> Line
+    ensures { λ r. ⌜ r ≡ lineOf before tag (now (body .entry)) (length (now (room .entry))) ⌝ }
     ensures { λ r. ⌜ now (room .exit) ≡ roomListed tag (now (body .entry)) (now (room .entry)) ⌝ }
 {
+    let seq = seq_after(before);
     if tag != BLOCK {
-        return refused(ground::OTHER_FIELD);
+        return refused(seq, ground::OTHER_FIELD);
     }
     let answer = block::read(body, room);
     if answer.number != ground::ACCEPTED {
-        return refused(answer.number);
+        return refused(seq, answer.number);
     }
     let header = answer.header;
     let plan = header::plan_of(&header);
     Line {
+        seq: seq,
         answer: ground::ACCEPTED,
         block: plan.block,
         version: plan.version,

@@ -1,44 +1,66 @@
 -- The ends of `locate`: a refusal by the header, by the record or by the words, and the record found; its part ends inside the words.
 -- Assumes nothing.
 use mathlib.Core.Path.{_≡_, refl, sym, ap, ap₂, _∙_, subst}
-use mathlib.Core.Bool.{Bool, true, false, _||_}
-use mathlib.Core.List.{List, [], _∷_}
-use Prim.Native.Nat.{ℕ, zero, suc, _+_, _-_, _*_, _/_, _<_, _≤_}
+use mathlib.Core.Bool.{true, false, _||_}
+use mathlib.Core.List.{List}
+use Prim.Native.Nat.{ℕ, suc, _+_, _-_, _*_, _/_, _<_, _≤_}
 use native.Mathlib.Nat.{mul-le-mul-right, suc-mul, div-one, one-mul}
 use native.Mathlib.Omega.{arith}
 use borrow.Author.Tests.{lt-ltb, le-ltb, eqb-true, eqb-false, ltb-false}
 use lib.Dec.{eqb, ltb}
-use Rattle.ground.proofs.LawsChoice.{yes, no, either, neither}
+use Rattle.ground.proofs.LawsChoice.{yes, no, either}
+use Rattle.ground.proofs.LawsTests.{neither}
 use Rattle.ground.proofs.LawsGrounds.{none-first, first-none, accepts, refuses}
-use Rattle.row.specs.Rows.{recordsIn, rowOf, visibleRow}
+use Rattle.row.specs.Rows.{recordsIn}
 use Rattle.row.specs.Suits.{Suits, zeroth, first, second, others, last6, last8, last10}
 use Rattle.row.specs.declared.Row.{Row}
-use Rattle.row.proofs.LawsRow.{row-others}
-use Rattle.header.specs.Says.{wordsIn}
+use Rattle.row.proofs.LawsRow.{row-others, row-records}
+use Rattle.header.specs.Says.{blockIn, versionIn, sizeIn, wordsIn}
+use Rattle.header.specs.Asks.{Asks}
 use Rattle.header.specs.Plans.{planGrounds, planOf}
 use Rattle.header.specs.declared.Plan.{Plan}
 use Rattle.header.proofs.KeepsHeader.{plan-number, grants-asked}
+use Rattle.header.proofs.LawsAsks.{asked-block, asked-words}
 use Rattle.header.proofs.LawsThen.{header-decides, others-decide, plan-is}
 use Rattle.records.specs.declared.Part.{Part}
 use Rattle.records.specs.Records.{recordsOf, recordLength, recordStart, noRecord, recordGrounds, groundsOf, refusalOf, refusedPart, partOf}
 
 -- ---- the words are shared evenly among the records
 
-evenly : {b v w C : ℕ} → Suits b v w C → 0 < rowOf b v w .records → rowOf b v w .records * (C / rowOf b v w .records) ≡ C
-unfolding rowOf recordsIn
-evenly zeroth h = absurd (omega arith)
-evenly (first {n = n} s) h = omega arith
-evenly (second {n = n} s) h = omega arith
-evenly (others {b = b} {v = v} {n = n} l u s) h =
-    let one : rowOf b v 10 .records ≡ 1 = sym (ap (λ (r : Row). r .records) (row-others b v 10 l u)) in
-    ap (λ (m : ℕ). m * ((16 + 4 * n) / m)) one ∙ one-mul _ ∙ div-one _
-evenly last6 h = absurd (omega arith)
-evenly last8 h = absurd (omega arith)
-evenly last10 h = absurd (omega arith)
+pub one-record : (b v : ℕ) → 3 ≤ b → b ≤ 10 → recordsIn b v ≡ 1
+one-record b v l u = sym (row-records b v 10) ∙ sym (ap (λ (r : Row). r .records) (row-others b v 10 l u))
 
-pub shares-evenly : (h : List ℕ) → planOf h .number ≡ 0 → 0 < recordsOf h → recordsOf h * recordLength h ≡ wordsIn h
+-- a record takes its share of C, and has more than its documentation
+pub shared : {b v w C : ℕ} → Suits b v w C → 0 < recordsIn b v → (recordsIn b v * (C / recordsIn b v) ≡ C) × (16 < C / recordsIn b v)
+unfolding recordsIn
+shared zeroth h = absurd (omega arith)
+shared (first {n = n} s) h = (omega arith, omega (arith, s .narrow))
+shared (second {n = n} s) h = (omega arith, omega (arith, s .narrow))
+shared (others {b = b} {v = v} {n = n} l u s) h =
+    let whole : (16 + 4 * n) / recordsIn b v ≡ 16 + 4 * n = ap (λ (m : ℕ). (16 + 4 * n) / m) (one-record b v l u) ∙ div-one _ in
+    (ap₂ (λ (m k : ℕ). m * k) (one-record b v l u) whole ∙ one-mul _, omega (arith, whole, s .narrow))
+shared last6 h = absurd (omega arith)
+shared last8 h = absurd (omega arith)
+shared last10 h = absurd (omega arith)
+
+pub length-by : (h : List ℕ) {b v w C : ℕ} → Asks h b v w C → recordLength h ≡ C / recordsIn b v
 unfolding recordLength
-shares-evenly h z some = evenly (grants-asked .only h z .1 .suits) some
+length-by h a =
+    ap₂ (λ (m n : ℕ). m / n) (asked-words a) (row-records (blockIn h) (versionIn h) (sizeIn h) ∙ ap₂ recordsIn (asked-block a) (a .version))
+
+module _ (h : List ℕ) (z : planOf h .number ≡ 0) (some : 0 < recordsOf h) where
+  share : (recordsOf h * recordLength h ≡ wordsIn h) × (16 < recordLength h)
+  share =
+      let a = grants-asked .only h z .1 in
+      let e : recordsIn (blockIn h) (versionIn h) ≡ recordsOf h = sym (row-records (blockIn h) (versionIn h) (sizeIn h)) in
+      let s = shared (a .suits) (subst (λ (n : ℕ). 0 < n) (sym e) some) in
+      (ap₂ (λ (m n : ℕ). m * n) (sym e) (length-by h a) ∙ s .0, subst (λ (n : ℕ). 16 < n) (sym (length-by h a)) (s .1))
+
+  pub shares-evenly : recordsOf h * recordLength h ≡ wordsIn h
+  shares-evenly = share .0
+
+  pub documented : 16 < recordLength h
+  documented = share .1
 
 module _ (h : List ℕ) (k words : ℕ) {p : Plan} (e : p ≡ planOf h) where
   ends : {n : ℕ} {r : Part} → r ≡ refusedPart n → refusalOf h k words ≡ n → (n ≡ 0 → ⊥) → r ≡ partOf h k words

@@ -1,8 +1,7 @@
 // Record access: where a detector record lies in the words that a block was decoded to, and that part of them.
 ghost use mathlib.Core.Path.{_≡_};
-ghost use Prim.Native.Nat.{_<_, _≤_};
+ghost use Prim.Native.Nat.{_<_};
 ghost use lib.ListN.{length};
-ghost use Rattle.header.specs.Plans.{planOf};
 ghost use Rattle.records.specs.Records.{refusedPart, partOf, recordOf};
 
 // 0 and where the record lies in the words, counted from 0; or a refusal's number, and an empty part.

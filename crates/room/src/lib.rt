@@ -1,4 +1,4 @@
-// Bytes laid into lent room, from a place on. Every writer of the house is made of it.
+// Bytes laid into lent room, from a place on. What is put together from bytes is made of it.
 ghost use mathlib.Core.Path.{_≡_};
 ghost use Prim.Native.Nat.{_+_, _≤_};
 ghost use lib.ListN.{length};

@@ -13,7 +13,7 @@ use Rattle.row.specs.Field.{upTo16, fieldBits, fieldBytes}
 use Rattle.row.specs.Suits.{zeroth, first, second, others, last6, last8, last10}
 use Rattle.row.specs.Promises.{FieldsEven, longestField, Held, WordsHeld}
 
-bits-whole : (b n : ℕ) → fieldBits b n % 16 ≡ 0
+pub bits-whole : (b n : ℕ) → fieldBits b n % 16 ≡ 0
 unfolding fieldBits
 bits-whole b n = either (λ k. k % 16 ≡ 0) (eqb b 0 || eqb b 11) (λ _. refl) (λ _. omega arith)
 

@@ -7,7 +7,8 @@ use native.Mathlib.Omega.{arith}
 use lib.Dec.{lit<, lit≤, eqb, ltb, leb}
 use lib.Arith.{lt-of-le-ne}
 use borrow.Author.Tests.{leb-true, leb-false, eqb-true, eqb-false, ne-eqb, eq-eqb, lt-ltb, le-leb, lt-leb}
-use Rattle.ground.proofs.LawsChoice.{yes, no, either, both, split, not-second}
+use Rattle.ground.proofs.LawsChoice.{yes, no, either}
+use Rattle.ground.proofs.LawsTests.{both, split, not-second}
 use Rattle.row.specs.declared.Row.{Row}
 use Rattle.row.specs.Rows.{recordsIn, fixedRow, infraredRow, visibleRow, noRow, rowOf, permits}
 use Rattle.row.specs.Suits.{Suits, zeroth, first, second, others, last6, last8, last10}

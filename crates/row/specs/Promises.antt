@@ -18,7 +18,7 @@ pub record Takes (block version size count : ℕ) : Type 0 where
 abbrev pub DecidesTable : Type 0
 DecidesTable = (block version size count : ℕ) → Takes block version size count ↔ Suits block version size count
 
--- the bytes of the longest field: the specification's largest block is 262,288 bits with its synchronization code, header and check word
+-- no field has more bytes: so long is that of a scan of 23 degrees, the specification's largest, which no row here permits
 abbrev pub longestField : ℕ
 longestField = 31440
 

@@ -1,12 +1,11 @@
 -- The table of field sizes as it is printed: which word size and which count suit a block number. Every version has the same rows so far.
 -- Assumes nothing.
 use Prim.Native.Nat.{ℕ, _+_, _*_, _≤_}
-use Rattle.row.specs.Pixels.{narrowest, widest}
 
 -- n is 1 to 5,236
 pub record Scan (n : ℕ) : Type 0 where
-  pub narrow : narrowest ≤ n
-  pub wide : n ≤ widest
+  pub narrow : 1 ≤ n
+  pub wide : n ≤ 5236
 
 pub data Suits : (block version size count : ℕ) → Type 0 where
   zeroth : {v : ℕ} → Suits 0 v 8 8040

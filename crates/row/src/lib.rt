@@ -163,7 +163,7 @@ fn field_bits(block: u8, words: u32) -> usize
     bits
 }
 
-// The bytes of the field that holds so many words.
+// The bytes of the field of a block with so many words; in blocks 0 and 11 it is fixed.
 pub fn field_bytes(block: u8, words: u32) -> usize
     ensures { λ r. ⌜ r ≡ fieldBytes block words ⌝ }
 {

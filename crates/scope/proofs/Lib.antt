@@ -1,1 +1,2 @@
 pub mod KeepsTable
+pub mod KeepsSettled

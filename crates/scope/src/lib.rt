@@ -1,1 +1,2 @@
-// The scope's numbered table, as one statement over the definitions of the crates below (specs/Table.antt). Nothing is called here.
+// Statements over the crates below: the scope's numbered table (specs/Table.antt), and that every contract settles its outcome
+// (specs/Settled.antt). Nothing is called here.

@@ -15,7 +15,7 @@ use Rattle.tag.specs.Digits.{digitsOf, paired, decimal, spelt}
 use Rattle.tag.specs.Tags.{marked, unmarked, withMark, tagDigits, part, tagOf, digitsOfTag, bytesOf, inBounds, goodTag, readTag, writeTag}
 use Rattle.tag.specs.Promises.{IsTag, Bounded, Reading, Writing, ThereAndBack}
 use Rattle.tag.specs.declared.Tag.{Tag}
-use Rattle.tag.proofs.LawsTests.{both, first, second}
+use Rattle.ground.proofs.LawsTests.{both, first, second}
 use Rattle.tag.proofs.LawsDigits.{decimal-drop, decimal-take, decimal-append, decimal-at, at-decimal, length-digits, paired-digits, digits-paired, decimal-spelt, spells, value-below, spelt-value}
 use Rattle.tag.proofs.LawsTags.{tag, read, written, good-bounds, reads, refuses, accepted}
 use Rattle.tag.proofs.LawsBounds.{facts, tests, day-below}

@@ -17,7 +17,7 @@ use Rattle.tag.specs.Tags.{unmarked, tagDigits, part, tagOf, inBounds, g
 use Rattle.tag.specs.Times.{timeOf, between, elapsedOf}
 use Rattle.tag.specs.Promises.{Bounded, Earlier, by-year, by-day, by-hour, by-minute, by-second, by-ms, SameTime, Elapsing, Quick}
 use Rattle.tag.specs.declared.Tag.{Tag}
-use Rattle.tag.proofs.LawsTests.{and-false}
+use Rattle.ground.proofs.LawsTests.{not-second}
 use Rattle.tag.proofs.LawsCalendar as Calendar
 use Rattle.tag.proofs.LawsTags.{tag}
 use Rattle.tag.proofs.LawsTimes as Times
@@ -97,7 +97,7 @@ pub elapsing : Elapsing
 elapsing = record {
   taken = λ a b p q. counted a b (good a p) (good b q);
   bad-first = λ a b h. not-counted a b (ap (λ (t : Bool). t && goodTag b) (bad a h));
-  bad-second = λ a b h. not-counted a b (ap (λ (t : Bool). goodTag a && t) (bad b h) ∙ and-false (goodTag a));
+  bad-second = λ a b h. not-counted a b (not-second (goodTag a) (bad b h));
   no-mark = no-mark;
   later = λ a b p q e. Times.later a b (in-order a b p q e);
   earlier = λ a b p q e. Times.earlier a b (in-order b a q p e);

@@ -11,7 +11,7 @@ use Rattle.tag.specs.Calendar.{leap, daysIn}
 use Rattle.tag.specs.Tags.{inBounds}
 use Rattle.tag.specs.Promises.{Bounded}
 use Rattle.tag.specs.declared.Tag.{Tag}
-use Rattle.tag.proofs.LawsTests.{both, first, second}
+use Rattle.ground.proofs.LawsTests.{both, first, second}
 
 -- What the first of a row of tests says.
 head : (m n : ℕ) (b : Bool) → leb m n && b ≡ true → m ≤ n

@@ -10,7 +10,7 @@ use lib.Dec.{eqb}
 use borrow.Author.Tests.{eqb-true, eqb-false, eq-eqb}
 use Rattle.ground.specs.Choice.{pick}
 use Rattle.tag.specs.Calendar.{daysIn, daysBefore}
-use Rattle.tag.proofs.LawsTests.{never}
+use Rattle.ground.proofs.LawsTests.{never}
 
 -- The multiples of p + 1 below y are (y + p) / (p + 1); below the next year there is one more where y is one.
 pos-of : (n : ℕ) → (n ≡ 0 → ⊥) → 0 < n

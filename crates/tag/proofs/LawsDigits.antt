@@ -11,7 +11,7 @@ use lib.Dec.{leb}
 use lib.ListN.{length, getD, take, drop}
 use borrow.Author.Tests.{le-leb, leb-true}
 use Rattle.tag.specs.Digits.{digitsOf, paired, decimal, valueOf, spelt}
-use Rattle.tag.proofs.LawsTests.{both, first, second}
+use Rattle.ground.proofs.LawsTests.{both, first, second}
 
 -- Decimal digits: of a row's parts, of two rows joined, and by place.
 pub decimal-drop : (k : ℕ) (ds : List ℕ) → decimal ds ≡ true → decimal (drop k ds) ≡ true

@@ -14,7 +14,7 @@ use Rattle.tag.specs.Tags.{tagDigits, tagOf, bytesOf, inBounds, goodTag,
 use Rattle.tag.specs.declared.Tag.{Tag}
 use Rattle.tag.specs.declared.TagRead.{TagRead}
 use Rattle.tag.specs.declared.TagBytes.{TagBytes}
-use Rattle.tag.proofs.LawsTests.{second, and-true, and-assoc}
+use Rattle.ground.proofs.LawsTests.{second, and-true, and-assoc}
 
 abbrev pub tag : ℕ → ℕ → ℕ → ℕ → ℕ → ℕ → Bool → Tag
 tag y d h m s k f = record { year = y; day = d; hour = h; minute = m; second = s; ms = k; flywheel = f }

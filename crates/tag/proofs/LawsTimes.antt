@@ -19,7 +19,7 @@ use Rattle.tag.specs.Tags.{tagOf, goodTag}
 use Rattle.tag.specs.Times.{timeOf, between, elapsedOf}
 use Rattle.tag.specs.declared.Tag.{Tag}
 use Rattle.tag.specs.declared.time.Elapsed.{Elapsed}
-use Rattle.tag.proofs.LawsTests.{never}
+use Rattle.ground.proofs.LawsTests.{never}
 
 pub minus : (a b : ℕ) → pos a -ℤ pos b ≡ subℕ a b
 minus a zero =

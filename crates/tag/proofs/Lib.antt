@@ -1,4 +1,3 @@
-pub mod LawsTests
 pub mod LawsCalendar
 pub mod LawsDigits
 pub mod LawsTags

@@ -1,31 +1,31 @@
--- The promises on beginning and on one offer are kept, the latter case by case of what it did.
+-- The promises on beginning and on one offer are kept, the latter case by case of what it did; and what an accepted one does, by the rules' own tests.
 -- Assumes nothing.
 use mathlib.Core.Path.{_≡_, refl, sym, ap, _∙_, subst}
-use Prim.Native.Nat.{ℕ, _≤_}
+use Prim.Native.Nat.{ℕ, _+_, _≤_}
 use native.Mathlib.Omega.{arith}
 use mathlib.Core.Bool.{Bool, true, false, not, _&&_, _||_}
 use mathlib.Core.List.{List}
 use lib.Dec.{T, eqb, ltb}
-use lib.IntN.{ℤ, pos}
+use lib.IntN.{ℤ, pos, negsuc}
 use lib.Signed.{ltZ, _≤ℤ_, _<ℤ_, ltZ-yes, clashℤ}
 use borrow.Author.Tests.{eq-eqb, ne-eqb, le-ltb, lt-ltb}
 use Rattle.ground.specs.Choice.{pick}
+use Rattle.ground.proofs.LawsChoice.{yes, no, either}
 use Rattle.tag.specs.Tags.{tagOf, inBounds, goodTag}
 use Rattle.tag.specs.Times.{between}
-use Rattle.tag.proofs.LawsTests.{never}
+use Rattle.ground.proofs.LawsTests.{never}
 use Rattle.watch.specs.Verdicts.{numberOf, closes}
 use Rattle.watch.specs.Bounds.{longestWait, lastOfScan, lastBlock, refusalOf}
-use Rattle.watch.specs.Rules.{idle, expecting, beginOf, stepOf}
-use Rattle.watch.specs.Promises.{Beginning, OneOffer}
+use Rattle.watch.specs.Rules.{idle, expecting, beginOf, onIdle, closing, inTime, onOpen, onGood, stepOf}
+use Rattle.watch.specs.Promises.{Beginning, OneOffer, Idle, Open, InTime, AcceptedOffer}
 use Rattle.watch.specs.declared.Watch.{Watch}
-use Rattle.watch.specs.declared.Closing.{Closing}
-use Rattle.watch.specs.declared.Closing.the-variants.{Broken}
+use Rattle.watch.specs.declared.Closing.the-variants.{ClockBack, Late, Broken, Complete}
 use Rattle.watch.specs.declared.Verdict.{Verdict}
-use Rattle.watch.specs.declared.Verdict.the-variants.{Refused, Stray, Opened, Closed}
+use Rattle.watch.specs.declared.Verdict.the-variants.{Refused, Stray, Opened, Kept}
 use Rattle.watch.specs.declared.Stepped.{Stepped}
-use Rattle.watch.proofs.LawsRules.{begun, accepted-for, to-ten}
+use Rattle.watch.proofs.LawsRules.{stepped, begun, accepted-for, to-ten}
 use Rattle.watch.proofs.LawsTurn as Turns
-use Rattle.watch.proofs.LawsTurn.{Turn, refuses, strays, opens, keeps, Why, back, late, broken, complete, turn, by-pick}
+use Rattle.watch.proofs.LawsTurn.{Turn, refuses, strays, opens, keeps, turn}
 
 module _ (w : Watch) (b : ℕ) (s : List ℕ) where
   gives : {r : Stepped} → Turn w b s r → numberOf (r .verdict) ≡ refusalOf w b s
@@ -67,25 +67,70 @@ module _ (w : Watch) (b : ℕ) (s : List ℕ) where
   same-limit (refuses h) = refl
   same-limit (strays e o z) = refl
   same-limit (opens e z) = refl
-  same-limit (Turns.closes e o y) = by-pick (λ (v : Watch). v .limit ≡ w .limit) (eqb b 0) (λ z. refl) (λ z. refl)
+  same-limit (Turns.closes e o y) = either (λ (v : Watch). v .limit ≡ w .limit) (eqb b 0) (λ z. refl) (λ z. refl)
   same-limit (keeps e o m q k) = refl
 
-less : {a b : ℤ} → ltZ a b ≡ true → a <ℤ b
-less e = ltZ-yes (subst T (sym e) tt)
+-- ---- an accepted offer, rule by rule
 
-module _ (w : Watch) (s : List ℕ) (o : w .opened ≡ true) (fore : pos 0 ≤ℤ between (w .last) (tagOf s)) (soon : between (w .last) (tagOf s) ≤ℤ pos (w .limit)) where
-  by-why : {why : Closing} → Why w lastBlock (tagOf s) why → Closed why ≡ Closed Broken
-  by-why (back e) = clashℤ (less e) fore
-  by-why (late e) = clashℤ (less e) soon
-  by-why broken = refl
-  by-why (complete m q n) = absurd (omega arith)
+lt-true : {a b : ℤ} → a <ℤ b → ltZ a b ≡ true
+lt-true {a} {b} h = go (ltZ a b) (h .lt)
+  where
+    go : (t : Bool) → T t → t ≡ true
+    go true x = refl
+    go false x = absurd x
 
-  breaks : {r : Stepped} → Turn w lastBlock s r → refusalOf w lastBlock s ≡ 0 → r .verdict ≡ Closed Broken
-  breaks (refuses h) n = absurd (h n)
-  breaks (strays e i z) n = never (sym i ∙ o)
-  breaks (opens e z) n = absurd (omega arith)
-  breaks (Turns.closes e i y) n = by-why y
-  breaks (keeps e i m q k) n = absurd (omega (arith, to-ten w (accepted-for w lastBlock s n .expected) o))
+lt-false : {a b : ℤ} → b ≤ℤ a → ltZ a b ≡ false
+lt-false {a} {b} h = go (ltZ a b) refl
+  where
+    go : (t : Bool) → ltZ a b ≡ t → t ≡ false
+    go true e = clashℤ (ltZ-yes (subst T (sym e) tt)) h
+    go false e = refl
+
+-- what is above a limit is not below 0
+above : (l : ℕ) (d : ℤ) → pos l <ℤ d → ltZ d (pos 0) ≡ false
+above l (pos n) h = le-ltb n 0 (omega arith)
+above l (negsuc n) h = absurd (h .lt)
+
+module _ (w : Watch) (b : ℕ) (s : List ℕ) where
+  on-idle : Idle w b s → stepOf w b s ≡ onIdle w b (tagOf s)
+  unfolding stepOf onGood
+  on-idle o = sym (yes _ refl (eq-eqb (refusalOf w b s) 0 (o .accepted)) (no _ refl (o .idle) refl))
+
+  on-open : Open w b s → stepOf w b s ≡ onOpen w b (tagOf s) (between (w .last) (tagOf s))
+  unfolding stepOf onGood
+  on-open o = sym (yes _ refl (eq-eqb (refusalOf w b s) 0 (o .accepted)) (yes _ refl (o .opened) refl))
+
+  in-time : InTime w b s → stepOf w b s ≡ inTime w b (tagOf s)
+  unfolding onOpen
+  in-time t = on-open (t .taken) ∙ sym (no _ refl (lt-false (t .forward)) (no _ refl (lt-false (t .soon)) refl))
+
+  backs : Open w b s → between (w .last) (tagOf s) <ℤ pos 0 → stepOf w b s ≡ closing w b (tagOf s) ClockBack
+  unfolding onOpen
+  backs o h = on-open o ∙ sym (yes _ refl (lt-true h) refl)
+
+  is-late : Open w b s → pos (w .limit) <ℤ between (w .last) (tagOf s) → stepOf w b s ≡ closing w b (tagOf s) Late
+  unfolding onOpen
+  is-late o h = on-open o ∙ sym (no _ refl (above (w .limit) (between (w .last) (tagOf s)) h) (yes _ refl (lt-true h) refl))
+
+  breaks : InTime w b s → (b ≡ w .expected → ⊥) → stepOf w b s ≡ closing w b (tagOf s) Broken
+  unfolding inTime
+  breaks t n = in-time t ∙ sym (yes _ refl (ap not (ne-eqb b (w .expected) n)) refl)
+
+  completes : InTime w b s → b ≡ w .expected → b ≡ lastOfScan → stepOf w b s ≡ closing w b (tagOf s) Complete
+  unfolding inTime
+  completes t e n = in-time t ∙ sym (no _ refl (ap not (eq-eqb b (w .expected) e)) (yes _ refl (eq-eqb b lastOfScan n) refl))
+
+  is-kept : InTime w b s → b ≡ w .expected → (b ≡ lastOfScan → ⊥) → stepOf w b s ≡ stepped (expecting (w .expected + 1) (tagOf s) (w .limit)) Kept
+  unfolding inTime
+  is-kept t e n = in-time t ∙ sym (no _ refl (ap not (eq-eqb b (w .expected) e)) (no _ refl (ne-eqb b lastOfScan n) refl))
+
+  opening : Idle w b s → b ≡ 0 → stepOf w b s ≡ stepped (expecting 1 (tagOf s) (w .limit)) Opened
+  unfolding onIdle
+  opening o z = on-idle o ∙ sym (yes _ refl (eq-eqb b 0 z) refl)
+
+  straying : Idle w b s → (b ≡ 0 → ⊥) → stepOf w b s ≡ stepped w Stray
+  unfolding onIdle
+  straying o n = on-idle o ∙ sym (no _ refl (ne-eqb b 0 n) refl)
 
 -- ---- an idle record
 
@@ -133,6 +178,19 @@ one-offer = record {
   opening = λ w b s. opened w b s (turn w b s);
   anew = λ w b s h z. closed w b s (turn w b s) h ∙ ap (λ (c : Bool). pick c (expecting 1 (tagOf s) (w .limit)) (idle (w .limit))) (eq-eqb b 0 z);
   at-rest = λ w b s h n. closed w b s (turn w b s) h ∙ ap (λ (c : Bool). pick c (expecting 1 (tagOf s) (w .limit)) (idle (w .limit))) (ne-eqb b 0 n);
-  eleven = λ w s n o f g. breaks w s o f g (turn w lastBlock s) n;
   limit = λ w b s. same-limit w b s (turn w b s);
+}
+
+pub accepted-offer : AcceptedOffer
+accepted-offer = record {
+  opens = opening;
+  strays = straying;
+  back = λ w b s o h. ap (λ (r : Stepped). r .verdict) (backs w b s o h);
+  late = λ w b s o h. ap (λ (r : Stepped). r .verdict) (is-late w b s o h);
+  broken = λ w b s t n. ap (λ (r : Stepped). r .verdict) (breaks w b s t n);
+  complete = λ w b s t e n. ap (λ (r : Stepped). r .verdict) (completes w b s t e n);
+  kept = is-kept;
+  eleven = λ w s t.
+      let within : w .expected ≤ 10 = to-ten w (accepted-for w lastBlock s (t .taken .accepted) .expected) (t .taken .opened) in
+      ap (λ (r : Stepped). r .verdict) (breaks w lastBlock s t (λ e. omega arith));
 }

@@ -2,7 +2,8 @@
 -- and later by at most a limit for each block since.
 -- Assumes nothing.
 use mathlib.Core.Path.{_≡_, refl, sym, ap, _∙_, subst}
-use Prim.Native.Nat.{ℕ, _+_, _*_, _-_, _≤_, _<_}
+use Prim.Native.Nat.{ℕ, zero, suc, _+_, _*_, _-_, _≤_, _<_}
+use native.Mathlib.Numerals.{add-one}
 use native.Mathlib.Omega.{arith}
 use mathlib.Core.Bool.{Bool, true, false, not, _&&_, _||_}
 use mathlib.Core.List.{List, [], _∷_, _++_, append-assoc, append-nil}
@@ -12,25 +13,28 @@ use lib.IntN.{ℤ, pos}
 use lib.Signed.{_≤ℤ_}
 use borrow.Author.Tests.{eqb-true, eq-eqb, ne-eqb, le-ltb}
 use Rattle.ground.specs.Choice.{pick}
+use Rattle.ground.proofs.LawsChoice.{either}
 use Rattle.tag.specs.Tags.{tagOf, goodTag, inBounds}
 use Rattle.tag.specs.Times.{timeOf, between, elapsedOf}
 use Rattle.tag.specs.declared.Tag.{Tag}
 use Rattle.tag.specs.declared.time.Elapsed.{Elapsed}
-use Rattle.tag.proofs.LawsTests.{both, first, second, and-false, never}
+use Rattle.ground.proofs.LawsTests.{both, first, second, not-second, never}
 use Rattle.tag.proofs.LawsTags.{good-bounds}
 use Rattle.tag.proofs.LawsTimes.{at-least-zero, at-most, not-back, not-late, answer, counted}
 use Rattle.tag.proofs.KeepsTags.{good}
 use Rattle.watch.specs.Verdicts.{numberOf, isComplete, completes}
 use Rattle.watch.specs.Bounds.{longestWait, lastOfScan, lastBlock, badLimit, badExpected, badLast, refusalOf}
 use Rattle.watch.specs.Rules.{idle, expecting}
-use Rattle.watch.specs.Offers.{Offer, nextOf, verdictOf, after, begins, noneBegins}
-use Rattle.watch.specs.Promises.{BegunBy, Scan, AnyOffers}
+use Rattle.watch.specs.Offers.{Offer, nextOf, verdictOf, after, begins, noneBegins, offerOf, blocksBefore}
+use Rattle.watch.specs.Promises.{InTime, BegunBy, Scan, AnyOffers}
 use Rattle.watch.specs.declared.Watch.{Watch}
 use Rattle.watch.specs.declared.Closing.{Closing}
+use Rattle.watch.specs.declared.Closing.the-variants.{Complete}
+use Rattle.watch.specs.declared.Verdict.the-variants.{Closed}
 use Rattle.watch.specs.declared.Stepped.{Stepped}
 use Rattle.watch.proofs.LawsRules.{accepted-for, from-one, to-ten}
-use Rattle.watch.proofs.LawsTurn.{Timely, Turn, refuses, strays, opens, closes, keeps, Why, back, late, broken, complete, turn, by-pick}
-use Rattle.watch.proofs.KeepsRules.{one-offer}
+use Rattle.watch.proofs.LawsTurn.{Timely, Turn, refuses, strays, opens, closes, keeps, Why, back, late, broken, complete, turn}
+use Rattle.watch.proofs.KeepsRules.{one-offer, accepted-offer}
 
 -- ---- a list of offers and one more
 
@@ -116,7 +120,7 @@ module _ (l : ℕ) (os : List Offer) (o : Offer) where
   not-first n = ap (λ (z : Bool). z && eqb (numberOf (verdictOf w o)) 0) (ne-eqb b 0 n)
 
   not-taken : (refusalOf w b (o .tag) ≡ 0 → ⊥) → begins w o ≡ false
-  not-taken n = ap (λ (z : Bool). eqb b 0 && z) (ne-eqb (numberOf (verdictOf w o)) 0 (λ e. n (sym number ∙ e))) ∙ and-false (eqb b 0)
+  not-taken n = not-second (eqb b 0) (ne-eqb (numberOf (verdictOf w o)) 0 (λ e. n (sym number ∙ e)))
 
   module _ (I : Inv l os w) where
     opened : b ≡ 0 → refusalOf w b (o .tag) ≡ 0 → Inv l longer (expecting 1 t (w .limit))
@@ -153,7 +157,7 @@ module _ (l : ℕ) (os : List Offer) (o : Offer) where
     turned (refuses h) = same (not-taken h)
     turned (strays e i n) = same (not-first n)
     turned (opens e z) = opened z e
-    turned (closes e i y) = by-pick (Inv l longer) (eqb b 0) (λ z. opened (eqb-true b 0 z) e) (λ z. rests)
+    turned (closes e i y) = either (Inv l longer) (eqb b 0) (λ z. opened (eqb-true b 0 z) e) (λ z. rests)
     turned (keeps e i m q n) = kept i m (not-first (λ z. omega (arith, from-one w (accepted-for w b (o .tag) e .expected) i)))
 
     one-on : Inv l longer (after (idle l) longer)
@@ -213,7 +217,7 @@ module _ (w : Watch) (b : ℕ) (s : List ℕ) (B : Bound w) where
   stays-bound (strays e i n) = B
   stays-bound (opens e z) = record { limit = B .limit; expected = refl; last = good-last e }
   stays-bound (closes e i y) =
-      by-pick Bound (eqb b 0) (λ z. record { limit = B .limit; expected = refl; last = good-last e }) (λ z. record { limit = B .limit; expected = refl; last = refl })
+      either Bound (eqb b 0) (λ z. record { limit = B .limit; expected = refl; last = good-last e }) (λ z. record { limit = B .limit; expected = refl; last = refl })
   stays-bound (keeps e i m q n) =
       let p : w .expected < lastOfScan = lt-of-le-ne (to-ten w (B .expected) i) (λ z. n (q ∙ z)) in
       record {
@@ -231,10 +235,54 @@ none-holds : (w : Watch) (b : ℕ) (s : List ℕ) → Bound w → b ≤ lastBloc
 unfolding refusalOf
 none-holds w b s B k g = λ i. pick (B .limit i) 16 (pick (B .expected i) 13 (pick (B .last i) 12 (pick (le-ltb lastBlock b k i) 4 (pick (not (g i)) 12 0))))
 
+-- ---- a whole scan
+
+taken-number : (l : ℕ) (os : List Offer) (o : Offer) → l ≤ longestWait → o .block ≤ lastBlock → goodTag (o .tag) ≡ true → refusalOf (after (idle l) os) (o .block) (o .tag) ≡ 0
+taken-number l os o k b g =
+    none-holds (after (idle l) os) (o .block) (o .tag) (bound-after os (idle l) (record { limit = le-ltb longestWait l k; expected = refl; last = refl })) b g
+
+module _ (l : ℕ) (tag : ℕ → List ℕ) (k : l ≤ longestWait) (tagged : (k : ℕ) → k ≤ lastOfScan → goodTag (tag k) ≡ true)
+    (wait : (k : ℕ) → k < lastOfScan → (pos 0 ≤ℤ between (tagOf (tag k)) (tagOf (tag (suc k)))) × (between (tagOf (tag k)) (tagOf (tag (suc k))) ≤ℤ pos l)) where
+  -- the watch once blocks 0 to n were offered
+  abbrev standing : ℕ → Watch
+  standing n = expecting (suc n) (tagOf (tag n)) l
+
+  -- the next offer is in time
+  timely : (n : ℕ) → n < lastOfScan → after (idle l) (blocksBefore (suc n) tag) ≡ standing n → InTime (standing n) (suc n) (tag (suc n))
+  timely n h e = record {
+    taken = record {
+      opened = refl;
+      accepted =
+          subst (λ (v : Watch). refusalOf v (suc n) (tag (suc n)) ≡ 0) e
+          (taken-number l (blocksBefore (suc n) tag) (offerOf tag (suc n)) k (omega arith) (tagged (suc n) (omega arith)));
+    };
+    forward = wait n h .0;
+    soon = wait n h .1;
+  }
+
+  stands : (n : ℕ) → n < lastOfScan → after (idle l) (blocksBefore (suc n) tag) ≡ standing n
+  unfolding blocksBefore after
+  stands zero h =
+      ap (λ (r : Stepped). r .next)
+      (accepted-offer .opens (idle l) 0 (tag 0) (record { idle = refl; accepted = taken-number l [] (offerOf tag 0) k (omega arith) (tagged 0 (omega arith)) }) refl)
+  stands (suc n) h =
+      let e = stands n (omega arith) in
+      after-one (idle l) (blocksBefore (suc n) tag) (offerOf tag (suc n)) ∙ ap (λ (v : Watch). nextOf v (offerOf tag (suc n))) e
+      ∙ ap (λ (r : Stepped). r .next) (accepted-offer .kept (standing n) (suc n) (tag (suc n)) (timely n (omega arith) e) refl (λ q. omega arith))
+      ∙ ap (λ (m : ℕ). expecting m (tagOf (tag (suc n))) l) (add-one (suc n))
+
+  ended : verdictOf (after (idle l) (blocksBefore lastOfScan tag)) (offerOf tag lastOfScan) ≡ Closed Complete
+  ended =
+      let e = stands 9 (omega arith) in
+      ap (λ (v : Watch). verdictOf v (offerOf tag lastOfScan)) e ∙ accepted-offer .complete (standing 9) 10 (tag 10) (timely 9 (omega arith) e) refl refl
+
 pub any-offers : AnyOffers
 any-offers = record {
   completed = λ l os o h. scan l os o (always l os) (turn (after (idle l) os) (o .block) (o .tag)) h;
-  never-refused = λ l os o k b t.
-      let B : Bound (after (idle l) os) = bound-after os (idle l) (record { limit = le-ltb longestWait l k; expected = refl; last = refl }) in
-      one-offer .number (after (idle l) os) (o .block) (o .tag) ∙ none-holds (after (idle l) os) (o .block) (o .tag) B b (good (o .tag) t);
+  never-refused = λ l os o k b t. one-offer .number (after (idle l) os) (o .block) (o .tag) ∙ taken-number l os o k b (good (o .tag) t);
+  whole = λ l tag k t w.
+      let g : (n : ℕ) → n ≤ lastOfScan → goodTag (tag n) ≡ true = λ n h. good (tag n) (t n h) in
+      ended l tag k g (λ n h.
+      let e = counted (tag n) (tag (suc n)) (g n (omega arith)) (g (suc n) (omega arith)) in
+      subst (λ (a : Elapsed). (pos 0 ≤ℤ a .ms) × (a .ms ≤ℤ pos l)) e (w n h));
 }

@@ -11,7 +11,7 @@ use Rattle.ground.specs.Choice.{pick}
 use Rattle.ground.specs.Grounds.{firstOf}
 use Rattle.tag.specs.Tags.{tagOf, goodTag, readTag}
 use Rattle.tag.specs.declared.TagRead.{TagRead}
-use Rattle.tag.proofs.LawsTests.{never}
+use Rattle.ground.proofs.LawsTests.{never}
 use Rattle.tag.proofs.LawsTags.{accepted, reads}
 use Rattle.watch.specs.Bounds.{lastOfScan, lastBlock, badLimit, badExpected, badLast, grounds, refusalOf}
 use Rattle.watch.specs.declared.Watch.{Watch}

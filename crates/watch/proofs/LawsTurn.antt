@@ -1,14 +1,14 @@
 -- One offer, by what it did: each case with the facts that led to it.
 -- Assumes nothing.
-use mathlib.Core.Path.{_≡_, refl}
+use mathlib.Core.Path.{_≡_}
 use Prim.Native.Nat.{ℕ, _+_}
-use mathlib.Core.Bool.{Bool, true, false, not}
+use mathlib.Core.Bool.{true, false, not}
 use mathlib.Core.List.{List}
 use lib.Dec.{eqb}
 use lib.IntN.{ℤ, pos}
 use lib.Signed.{ltZ}
 use borrow.Author.Tests.{eqb-true, eqb-false, not-false}
-use Rattle.ground.specs.Choice.{pick}
+use Rattle.ground.proofs.LawsChoice.{either}
 use Rattle.tag.specs.Tags.{tagOf}
 use Rattle.tag.specs.Times.{between}
 use Rattle.tag.specs.declared.Tag.{Tag}
@@ -41,11 +41,6 @@ pub data Turn (w : Watch) (b : ℕ) (s : List ℕ) : Stepped → Type 0 where
   keeps : refusalOf w b s ≡ 0 → w .opened ≡ true → Timely w (tagOf s) → b ≡ w .expected → (b ≡ lastOfScan → ⊥)
       → Turn w b s (stepped (expecting (w .expected + 1) (tagOf s) (w .limit)) Kept)
 
--- A choice, taken apart.
-pub by-pick : {X : Type 0} (P : X → Type 0) (b : Bool) {x y : X} → (b ≡ true → P x) → (b ≡ false → P y) → P (pick b x y)
-by-pick P true f g = f refl
-by-pick P false f g = g refl
-
 module _ (w : Watch) (b : ℕ) (s : List ℕ) where
   abbrev t : Tag
   t = tagOf s
@@ -57,21 +52,21 @@ module _ (w : Watch) (b : ℕ) (s : List ℕ) where
     when-open : w .opened ≡ true → Turn w b s (onOpen w b t d)
     unfolding onOpen inTime
     when-open o =
-        by-pick (Turn w b s) (ltZ d (pos 0)) (λ e. closes taken o (back e)) (λ forward.
-        by-pick (Turn w b s) (ltZ (pos (w .limit)) d) (λ e. closes taken o (late e)) (λ soon.
-        by-pick (Turn w b s) (not (eqb b (w .expected))) (λ e. closes taken o broken) (λ e.
+        either (Turn w b s) (ltZ d (pos 0)) (λ e. closes taken o (back e)) (λ forward.
+        either (Turn w b s) (ltZ (pos (w .limit)) d) (λ e. closes taken o (late e)) (λ soon.
+        either (Turn w b s) (not (eqb b (w .expected))) (λ e. closes taken o broken) (λ e.
         let timely : Timely w t = record { forward = forward; soon = soon } in
         let same : b ≡ w .expected = eqb-true b (w .expected) (not-false (eqb b (w .expected)) e) in
-        by-pick (Turn w b s) (eqb b lastOfScan) (λ e. closes taken o (complete timely same (eqb-true b lastOfScan e))) (λ e. keeps taken o timely same (eqb-false b lastOfScan e)))))
+        either (Turn w b s) (eqb b lastOfScan) (λ e. closes taken o (complete timely same (eqb-true b lastOfScan e))) (λ e. keeps taken o timely same (eqb-false b lastOfScan e)))))
 
     when-idle : w .opened ≡ false → Turn w b s (onIdle w b t)
     unfolding onIdle
-    when-idle o = by-pick (Turn w b s) (eqb b 0) (λ e. opens taken (eqb-true b 0 e)) (λ e. strays taken o (eqb-false b 0 e))
+    when-idle o = either (Turn w b s) (eqb b 0) (λ e. opens taken (eqb-true b 0 e)) (λ e. strays taken o (eqb-false b 0 e))
 
     when-good : Turn w b s (onGood w b t)
     unfolding onGood
-    when-good = by-pick (Turn w b s) (w .opened) when-open when-idle
+    when-good = either (Turn w b s) (w .opened) when-open when-idle
 
   pub turn : Turn w b s (stepOf w b s)
   unfolding stepOf
-  turn = by-pick (Turn w b s) (eqb (refusalOf w b s) 0) (λ e. when-good (eqb-true (refusalOf w b s) 0 e)) (λ e. refuses (eqb-false (refusalOf w b s) 0 e))
+  turn = either (Turn w b s) (eqb (refusalOf w b s) 0) (λ e. when-good (eqb-true (refusalOf w b s) 0 e)) (λ e. refuses (eqb-false (refusalOf w b s) 0 e))

@@ -1,8 +1,8 @@
 -- Offers to a watch, one after the other, refused ones among them.
 -- Assumes nothing.
-use Prim.Native.Nat.{ℕ}
+use Prim.Native.Nat.{ℕ, zero, suc}
 use mathlib.Core.Bool.{Bool, true, not, _&&_}
-use mathlib.Core.List.{List, [], _∷_}
+use mathlib.Core.List.{List, [], _∷_, _++_}
 use lib.Dec.{eqb}
 use Rattle.watch.specs.Verdicts.{numberOf}
 use Rattle.watch.specs.Rules.{stepOf}
@@ -33,3 +33,11 @@ begins w o = eqb (o .block) 0 && eqb (numberOf (verdictOf w o)) 0
 unfoldable pub noneBegins : Watch → List Offer → Bool
 noneBegins w [] = true
 noneBegins w (o ∷ os) = not (begins w o) && noneBegins (nextOf w o) os
+
+-- Blocks in order, each with its tag: block k, and the blocks before it.
+abbrev pub offerOf : (ℕ → List ℕ) → ℕ → Offer
+offerOf tag k = record { block = k; tag = tag k }
+
+unfoldable pub blocksBefore : ℕ → (ℕ → List ℕ) → List Offer
+blocksBefore zero tag = []
+blocksBefore (suc k) tag = blocksBefore k tag ++ (offerOf tag k ∷ [])

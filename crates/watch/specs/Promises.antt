@@ -1,22 +1,22 @@
--- What is promised of the watch: of its beginning and of one offer, kept in proofs/KeepsRules.antt, then of any sequence of offers,
--- kept in proofs/KeepsScans.antt.
+-- What is promised of the watch: of its beginning, of one offer and what an accepted one does, kept in proofs/KeepsRules.antt; then of any
+-- sequence of offers, kept in proofs/KeepsScans.antt.
 -- Assumes nothing.
 use mathlib.Core.Path.{_≡_}
-use Prim.Native.Nat.{ℕ, _*_, _≤_, _<_}
+use Prim.Native.Nat.{ℕ, suc, _+_, _*_, _≤_, _<_}
 use mathlib.Core.Bool.{true, false}
 use mathlib.Core.List.{List, _∷_, _++_}
 use lib.IntN.{ℤ, pos}
-use lib.Signed.{_≤ℤ_}
+use lib.Signed.{_≤ℤ_, _<ℤ_}
 use Rattle.tag.specs.Tags.{tagOf}
 use Rattle.tag.specs.Times.{between, elapsedOf}
 use Rattle.tag.specs.Promises.{IsTag}
 use Rattle.watch.specs.Verdicts.{numberOf, closes, completes}
 use Rattle.watch.specs.Bounds.{longestWait, lastOfScan, lastBlock, refusalOf}
 use Rattle.watch.specs.Rules.{idle, expecting, beginOf, stepOf}
-use Rattle.watch.specs.Offers.{Offer, nextOf, verdictOf, after, begins, noneBegins}
+use Rattle.watch.specs.Offers.{Offer, nextOf, verdictOf, after, begins, noneBegins, offerOf, blocksBefore}
 use Rattle.watch.specs.declared.Watch.{Watch}
-use Rattle.watch.specs.declared.Closing.the-variants.{Broken}
-use Rattle.watch.specs.declared.Verdict.the-variants.{Stray, Opened, Closed}
+use Rattle.watch.specs.declared.Closing.the-variants.{ClockBack, Late, Broken, Complete}
+use Rattle.watch.specs.declared.Verdict.the-variants.{Stray, Opened, Kept, Closed}
 
 -- A watch begins idle, with a limit from 0 to 3,600,000 ms; above it 16, with zeros.
 pub record Beginning : Type 0 where
@@ -36,11 +36,36 @@ pub record OneOffer : Type 0 where
   -- A closing offer that is block 0 also opens a new scan. After any other closing the watch is idle, its expected block and tag zero.
   pub anew : (w : Watch) (b : ℕ) (s : List ℕ) → closes (stepOf w b s .verdict) ≡ true → b ≡ 0 → stepOf w b s .next ≡ expecting 1 (tagOf s) (w .limit)
   pub at-rest : (w : Watch) (b : ℕ) (s : List ℕ) → closes (stepOf w b s .verdict) ≡ true → (b ≡ 0 → ⊥) → stepOf w b s .next ≡ idle (w .limit)
-  -- Block 11 while open is broken, unless the clock decides first.
-  pub eleven : (w : Watch) (s : List ℕ) → refusalOf w lastBlock s ≡ 0 → w .opened ≡ true → pos 0 ≤ℤ between (w .last) (tagOf s)
-      → between (w .last) (tagOf s) ≤ℤ pos (w .limit) → stepOf w lastBlock s .verdict ≡ Closed Broken
   -- The limit stays.
   pub limit : (w : Watch) (b : ℕ) (s : List ℕ) → stepOf w b s .next .limit ≡ w .limit
+
+-- An accepted offer to an idle watch, and to an open one.
+pub record Idle (w : Watch) (b : ℕ) (s : List ℕ) : Type 0 where
+  pub idle : w .opened ≡ false
+  pub accepted : refusalOf w b s ≡ 0
+
+pub record Open (w : Watch) (b : ℕ) (s : List ℕ) : Type 0 where
+  pub opened : w .opened ≡ true
+  pub accepted : refusalOf w b s ≡ 0
+
+-- One that is neither back nor late.
+pub record InTime (w : Watch) (b : ℕ) (s : List ℕ) : Type 0 where
+  pub taken : Open w b s
+  pub forward : pos 0 ≤ℤ between (w .last) (tagOf s)
+  pub soon : between (w .last) (tagOf s) ≤ℤ pos (w .limit)
+
+-- What an accepted offer does, rule by rule.
+pub record AcceptedOffer : Type 0 where
+  pub opens : (w : Watch) (b : ℕ) (s : List ℕ) → Idle w b s → b ≡ 0 → stepOf w b s ≡ record { next = expecting 1 (tagOf s) (w .limit); verdict = Opened }
+  pub strays : (w : Watch) (b : ℕ) (s : List ℕ) → Idle w b s → (b ≡ 0 → ⊥) → stepOf w b s ≡ record { next = w; verdict = Stray }
+  pub back : (w : Watch) (b : ℕ) (s : List ℕ) → Open w b s → between (w .last) (tagOf s) <ℤ pos 0 → stepOf w b s .verdict ≡ Closed ClockBack
+  pub late : (w : Watch) (b : ℕ) (s : List ℕ) → Open w b s → pos (w .limit) <ℤ between (w .last) (tagOf s) → stepOf w b s .verdict ≡ Closed Late
+  pub broken : (w : Watch) (b : ℕ) (s : List ℕ) → InTime w b s → (b ≡ w .expected → ⊥) → stepOf w b s .verdict ≡ Closed Broken
+  pub complete : (w : Watch) (b : ℕ) (s : List ℕ) → InTime w b s → b ≡ w .expected → b ≡ lastOfScan → stepOf w b s .verdict ≡ Closed Complete
+  pub kept : (w : Watch) (b : ℕ) (s : List ℕ) → InTime w b s → b ≡ w .expected → (b ≡ lastOfScan → ⊥)
+      → stepOf w b s ≡ record { next = expecting (w .expected + 1) (tagOf s) (w .limit); verdict = Kept }
+  -- Block 11 while open is broken, unless the clock decides first.
+  pub eleven : (w : Watch) (s : List ℕ) → InTime w lastBlock s → stepOf w lastBlock s .verdict ≡ Closed Broken
 
 -- After the offers os to a watch: the block 0 that began the scan it is in was offered and accepted, with none after it.
 pub record BegunBy (w : Watch) (os : List Offer) : Type 0 where
@@ -62,6 +87,10 @@ pub record Scan (limit : ℕ) (os : List Offer) (o : Offer) : Type 0 where
 pub record AnyOffers : Type 0 where
   -- Over any offers to a watch begun idle, refused ones among them.
   pub completed : (limit : ℕ) (os : List Offer) (o : Offer) → completes (verdictOf (after (idle limit) os) o) ≡ true → Scan limit os o
+  -- A scan whose blocks 0 to 10 are offered in order, each from 0 to the limit after the one before it, is completed.
+  pub whole : (limit : ℕ) (tag : ℕ → List ℕ) → limit ≤ longestWait → ((k : ℕ) → k ≤ lastOfScan → IsTag (tag k))
+      → ((k : ℕ) → k < lastOfScan → (pos 0 ≤ℤ elapsedOf (tag k) (tag (suc k)) .ms) × (elapsedOf (tag k) (tag (suc k)) .ms ≤ℤ pos limit))
+      → verdictOf (after (idle limit) (blocksBefore lastOfScan tag)) (offerOf tag lastOfScan) ≡ Closed Complete
   -- Nor does such a watch ever refuse a known block with a good tag.
   pub never-refused : (limit : ℕ) (os : List Offer) (o : Offer) → limit ≤ longestWait → o .block ≤ lastBlock → IsTag (o .tag)
       → numberOf (verdictOf (after (idle limit) os) o) ≡ 0

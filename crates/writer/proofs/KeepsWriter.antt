@@ -32,10 +32,7 @@ refuses-in-order h ws room =
     reads-number (record { number = 0; bytes = blockBytes h }) refusedWritten (λ (r : Written). r .number) refl (λ n. refl) (writeRefusal h ws room)
 
 pub refuses-exactly : RefusesExactly
-refuses-exactly h ws room before g after e =
-    let k = exactly (writeGrounds h ws room) before g after refl refl e in
-    let n = refuses-in-order h ws room in
-    (λ f. k .0 (sym n ∙ f), λ x. n ∙ k .1 x)
+refuses-exactly h ws room = exactly (writeGrounds h ws room) refl refl (refuses-in-order h ws room)
 
 number-is : (h ws : List ℕ) (room : ℕ) → writeRefusal h ws room ≡ writtenOf h ws room .number
 unfolding writeRefusal

@@ -11,13 +11,14 @@ use Rattle.bits.specs.Bits.{Below}
 use Rattle.bits.specs.Fields.{wordsOf, fieldOf}
 use Rattle.bits.proofs.LawsBelow.{below-take, below-drop}
 use Rattle.bits.proofs.LawsFields.{length-wordsOf, wordsOf-below, put-taken}
+use Rattle.check_word.specs.Check.{checkLength}
 use Rattle.row.specs.Field.{fieldBytes}
 use Rattle.row.proofs.LawsField.{words-held}
 use Rattle.header.specs.Says.{headerLength}
 use Rattle.header.specs.Copies.{copyLength, copiesLength, copyAt}
 use Rattle.header.specs.Asks.{Asks}
 use Rattle.header.proofs.LawsAgreed.{each, copy-long}
-use Rattle.block.specs.Layout.{checkLength, blockLength, informationField}
+use Rattle.block.specs.Layout.{blockLength, informationField}
 use Rattle.block.specs.Meets.{Meets}
 use Rattle.block.proofs.LawsMeets.{each-fill}
 use Rattle.block.proofs.LawsReader.{field-long}

@@ -13,12 +13,12 @@ use Rattle.bits.specs.Fields.{fieldOf}
 use Rattle.bits.proofs.LawsBelow.{below-append}
 use Rattle.bits.proofs.LawsFields.{length-fieldOf}
 use Rattle.bits.proofs.LawsWords.{spell-below}
-use Rattle.check_word.specs.Check.{generator, checkBy, checkWord, bytesOf}
+use Rattle.check_word.specs.Check.{generator, checkBy, checkLength, checkWord, bytesOf}
 use Rattle.check_word.specs.Finds.{Passes}
 use Rattle.check_word.proofs.LawsFeed.{feed-lt}
 use Rattle.header.specs.Says.{headerLength}
 use Rattle.header.specs.Copies.{copiesLength}
-use Rattle.block.specs.Layout.{checkLength, blockLength}
+use Rattle.block.specs.Layout.{blockLength}
 use Rattle.writer.specs.Blocks.{sealed, copiesOf, blockOf}
 
 pub length-sealed : (m : List ℕ) → length (sealed m) ≡ length m + checkLength

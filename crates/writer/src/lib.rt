@@ -2,6 +2,7 @@
 ghost use mathlib.Core.Path.{_≡_};
 ghost use lib.ListN.{length};
 ghost use Rattle.writer.specs.Answers.{refusedWritten, writtenOf, roomWritten};
+use check_word::CHECK_BYTES;
 use header::COPIES_BYTES;
 
 mod parts;
@@ -11,9 +12,6 @@ pub struct Written {
     pub number: u8,
     pub bytes: usize,
 }
-
-// The check word behind the field.
-const CHECK_BYTES: usize = 2;
 
 fn refused(number: u8) -> Written
     ensures { λ r. ⌜ r ≡ refusedWritten number ⌝ }

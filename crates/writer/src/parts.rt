@@ -5,17 +5,16 @@ ghost use Prim.Native.Nat.{_+_, _-_, _≤_};
 ghost use lib.ListN.{length, take, drop};
 ghost use Rattle.ground.specs.Choice.{pick};
 ghost use Rattle.bits.specs.Fields.{putAnswer, fieldPut, allFit};
-ghost use Rattle.check_word.specs.Check.{checkWord, bytesOf};
+ghost use Rattle.check_word.specs.Check.{checkLength, checkWord, bytesOf};
 ghost use Rattle.room.specs.Laid.{laid};
 ghost use Rattle.row.specs.Promises.{Held};
 ghost use Rattle.header.specs.Says.{headerLength};
 ghost use Rattle.header.specs.Copies.{copiesLength};
-ghost use Rattle.block.specs.Layout.{checkLength, blockLength, informationField};
+ghost use Rattle.block.specs.Layout.{blockLength, informationField};
 ghost use Rattle.writer.specs.Blocks.{sealed, copiesOf, blockOf};
 use header::COPIES_BYTES;
+use header::COPY_BYTES;
 use header::HEADER_BYTES;
-
-const COPY_BYTES: usize = 30;
 
 // The two bytes of a check word, high byte first.
 fn check_bytes(message: &[u8]) -> [u8; 2]
@@ -37,7 +36,7 @@ fn copy_of(header: &[u8]) -> [u8; 30]
     copy
 }
 
-pub fn put_copies(header: &[u8], room: &mut [u8])
+pub(crate) fn put_copies(header: &[u8], room: &mut [u8])
     requires { ⌜ length (now header) ≡ headerLength ⌝ }
     requires { ⌜ copiesLength ≤ length (now room) ⌝ }
     ensures { λ _. ⌜ now (room .exit) ≡ laid (now (room .entry)) 0 (copiesOf (now (header .entry))) ⌝ }
@@ -49,7 +48,7 @@ pub fn put_copies(header: &[u8], room: &mut [u8])
 }
 
 // The words into the field that ends at byte `end`. A refusal leaves the room as it was.
-pub fn put_field(words: &[u16], size: u8, room: &mut [u8], end: usize) -> u8
+pub(crate) fn put_field(words: &[u16], size: u8, room: &mut [u8], end: usize) -> u8
     requires { ⌜ (copiesLength ≤ end) × (end ≤ length (now room)) ⌝ }
     ensures { λ r. ⌜ r ≡ putAnswer size (now (words .entry)) (end - copiesLength) ⌝ }
     ensures { λ r. ⌜ now (room .exit) ≡ take copiesLength (now (room .entry)) ++ (fieldPut size (now (words .entry)) (informationField (end - copiesLength) (now (room .entry))) ++ drop end (now (room .entry))) ⌝ }
@@ -58,7 +57,7 @@ pub fn put_field(words: &[u16], size: u8, room: &mut [u8], end: usize) -> u8
 }
 
 // The check word of the field that ends at byte `end`, behind it.
-pub fn put_check(room: &mut [u8], end: usize)
+pub(crate) fn put_check(room: &mut [u8], end: usize)
     requires { ⌜ (copiesLength ≤ end) × (end + checkLength ≤ length (now room)) ⌝ }
     ensures { λ _. ⌜ now (room .exit) ≡ laid (now (room .entry)) end (bytesOf (checkWord (informationField (end - copiesLength) (now (room .entry))))) ⌝ }
 {
@@ -68,7 +67,7 @@ pub fn put_check(room: &mut [u8], end: usize)
 
 // The block, from header, words and the length of its field, to the front of the room; or, where a word is too large, its refusal, and
 // the room as it was. The field comes first, because only it can refuse.
-pub fn put_block(header: &[u8], size: u8, bytes: usize, words: &[u16], room: &mut [u8]) -> u8
+pub(crate) fn put_block(header: &[u8], size: u8, bytes: usize, words: &[u16], room: &mut [u8]) -> u8
     requires { ⌜ length (now header) ≡ headerLength ⌝ }
     requires { ⌜ Held size (length (now words)) bytes ⌝ }
     requires { ⌜ blockLength bytes ≤ length (now room) ⌝ }

@@ -1,12 +1,14 @@
 -- `list::list_field` is safe: a whole field ends inside the bytes that came.
 -- Assumes nothing.
-use mathlib.Core.Path.{_≡_, sym, ap, _∙_}
-use mathlib.Core.List.{List}
-use Prim.Native.Nat.{ℕ, _+_, _≤_}
+use mathlib.Core.Path.{refl, sym, ap, _∙_}
+use mathlib.Core.Logic.{inl, inr}
+use Prim.Native.Nat.{_+_, _≤_}
 use native.Mathlib.Omega.{arith}
-use lib.ListN.{length, take}
+use lib.ListN.{take}
 use lib.Seq.{length-take-le}
+use Rattle.recording.specs.declared.Line.{Line}
 use Rattle.recording.proofs.LawsFound.{whole-inside}
+use Rattle.recording.proofs.LawsLines.{line-seq, seq-next}
 use borrow.Author.Needs.{needs}
 use Rattle.list.proofs.list_field.Statement.{statement}
 use Rattle.list.proofs.list_field.Tie as tie
@@ -50,9 +52,6 @@ part-line-of-end c = omega (arith, inside (c .before .before), c .before .before
 line-of-requires : tie.Need-line-of-requires
 line-of-requires c κs = search needs
 
-add-write-line : tie.Need-add-write-line
-add-write-line c = search needs
-
 write-line-requires : tie.Need-write-line-requires
 write-line-requires c κs = search needs
 
@@ -80,20 +79,26 @@ same-length c = search needs
 same-length-2 : tie.Need-same-length-2
 same-length-2 c = search needs
 
+-- the number of a line is above those before it
 returns : tie.Need-returns
-returns c = search needs
+returns c =
+    let line = c .before .before .before in
+    let read = line .before .before .before .before .before .before .before .before .before .before .before in
+    let start = read .before .before .before .before .before in
+    let e = ap (λ (l : Line). l .seq) (line .line-of .ensures .0) ∙ line-seq _ _ _ _ ∙ seq-next (start .args .seen) (start .pre .0) in
+    inr (omega (arith, e))
 
 same-length-3 : tie.Need-same-length-3
 same-length-3 c = search needs
 
 returns-2 : tie.Need-returns-2
-returns-2 c = search needs
+returns-2 c = inl refl
 
 same-length-4 : tie.Need-same-length-4
 same-length-4 c = search needs
 
 returns-3 : tie.Need-returns-3
-returns-3 c = search needs
+returns-3 c = inl refl
 
 pub list-field-spec : {M : Type 1} → statement M
 list-field-spec =
@@ -109,7 +114,6 @@ list-field-spec =
     part-line-of-start
     part-line-of-end
     line-of-requires
-    add-write-line
     write-line-requires
     enum-told
     slice-aggregate-finish

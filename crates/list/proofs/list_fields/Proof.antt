@@ -1,7 +1,8 @@
--- `list::list_fields` is safe and ends: it counts its fields up to a number that none has.
+-- `list::list_fields` is safe and ends: each field has a higher number, up to one that none has.
 -- Assumes nothing.
-use mathlib.Core.Path.{_≡_, refl}
-use Prim.Native.Nat.{_-_, _≤_}
+use mathlib.Core.Path.{_≡_}
+use mathlib.Core.Logic.{_⊎_, inl, inr}
+use Prim.Native.Nat.{ℕ, _-_, _<_, _≤_}
 use native.Mathlib.Omega.{arith}
 use lib.ListN.{length}
 use borrow.Author.Needs.{needs}
@@ -9,25 +10,20 @@ use Rattle.list.proofs.list_fields.Statement.{statement}
 use Rattle.list.proofs.list_fields.Tie as tie
 
 abbrev Inv-loop : tie.InvT-loop
-Inv-loop fd name field₀ room₀ seq₀ field room seq = (65538 ≤ length field) × (length field ≡ length field₀) × (length room ≡ length room₀)
+Inv-loop fd name field₀ room₀ seen₀ field room seen = (65538 ≤ length field) × (length field ≡ length field₀) × (length room ≡ length room₀)
 
 abbrev μ-loop : tie.MeasureT-loop
-μ-loop fd name field₀ room₀ seq₀ field room seq = 18446744073709551615 - seq
+μ-loop fd name field₀ room₀ seen₀ field room seen = 18446744073709551615 - seen
+
+grown : {seen seq : ℕ} → (seq ≡ 0) ⊎ (seen < seq) → (seq ≡ 0 → ⊥) → seen < seq
+grown (inl e) f = absurd (f e)
+grown (inr h) f = h
 
 loop-holds : tie.Need-loop-holds Inv-loop μ-loop
 loop-holds c = search needs
 
 list-field-requires : tie.Need-list-field-requires Inv-loop μ-loop
 list-field-requires c κs = search needs
-
-add-seq : tie.Need-add-seq Inv-loop μ-loop
-add-seq c = search needs
-
-loop-less : tie.Need-loop-less Inv-loop μ-loop
-loop-less c = search needs
-
-loop-again : tie.Need-loop-again Inv-loop μ-loop
-loop-again c = search needs
 
 same-length : tie.Need-same-length Inv-loop μ-loop
 same-length c = search needs
@@ -37,6 +33,12 @@ same-length-2 c = search needs
 
 returns : tie.Need-returns Inv-loop μ-loop
 returns c = search needs
+
+loop-less : tie.Need-loop-less Inv-loop μ-loop
+loop-less c = omega (arith, grown (c .before .before .before .before .before .list-field .ensures) (c .if1 .left))
+
+loop-again : tie.Need-loop-again Inv-loop μ-loop
+loop-again c = search needs
 
 same-length-3 : tie.Need-same-length-3 Inv-loop μ-loop
 same-length-3 c = search needs
@@ -55,12 +57,11 @@ list-fields-spec =
     μ-loop
     loop-holds
     list-field-requires
-    add-seq
-    loop-less
-    loop-again
     same-length
     same-length-2
     returns
+    loop-less
+    loop-again
     same-length-3
     same-length-4
     returns-2)

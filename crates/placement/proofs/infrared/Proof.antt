@@ -5,7 +5,7 @@ use mathlib.Core.Path.{sym, _∙_}
 use Prim.Native.Nat.{_≤_}
 use native.Mathlib.Omega.{arith}
 use borrow.Author.Needs.{needs}
-use Rattle.placement.specs.Placement.{heldIn, recordsIn, placeOf}
+use Rattle.placement.specs.Placement.{heldIn, recordsHeld, placeOf}
 use Rattle.placement.specs.Table.{namedBy}
 use Rattle.placement.proofs.LawsPlacement.{absent}
 use Rattle.placement.proofs.LawsRecords.{at-most-four}
@@ -25,7 +25,7 @@ refused-requires-2 c κs = search needs
 returns-2 : tie.Need-returns-2
 returns-2 c =
     let a = c .before .before .before .args in
-    let most : recordsIn (a .block) (a .version) ≤ 4 = at-most-four (a .block) (a .version) (omega arith) (omega arith) in
+    let most : recordsHeld (a .block) (a .version) ≤ 4 = at-most-four (a .block) (a .version) (omega arith) (omega arith) in
     c .refused2 .ensures ∙ sym (absent _ _ _ (omega arith) (omega arith) (λ l m. omega arith))
 
 sub-at : tie.Need-sub-at
@@ -50,13 +50,13 @@ named-requires-2 : tie.Need-named-requires-2
 named-requires-2 c κs = search needs
 
 returns-3 : tie.Need-returns-3
-unfolding placeOf heldIn recordsIn namedBy
+unfolding placeOf heldIn recordsHeld namedBy
 returns-3 c =
     let a = c .before .before .before .before .args in
     c .named .ensures ∙ infrared-row _ 0 tt (a .block) (a .version) (a .«record») (omega arith)
 
 returns-4 : tie.Need-returns-4
-unfolding placeOf heldIn recordsIn namedBy
+unfolding placeOf heldIn recordsHeld namedBy
 returns-4 c =
     let a = c .before .before .before .before .args in
     c .named2 .ensures ∙ infrared-row _ 2 tt (a .block) (a .version) (a .«record») (omega arith)

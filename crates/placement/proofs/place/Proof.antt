@@ -4,7 +4,7 @@ use mathlib.Core.Path.{_≡_, sym, _∙_}
 use mathlib.Core.Logic.{⊎-elim}
 use native.Mathlib.Omega.{arith}
 use borrow.Author.Needs.{needs}
-use Rattle.placement.specs.Placement.{recordsIn}
+use Rattle.placement.specs.Placement.{recordsHeld}
 use Rattle.placement.proofs.KeepsPlacement.{every-version}
 use Rattle.placement.proofs.LawsPlacement.{unknown-block, unknown-version, absent}
 use Rattle.placement.proofs.LawsRecords.{no-records}
@@ -41,7 +41,7 @@ returns-4 c = c .visible .ensures ∙ sym (every-version _ _ _ (omega arith) (om
 returns-5 : tie.Need-returns-5
 returns-5 c =
     let a = c .before .before .before .before .args in
-    let none : recordsIn (a .block) (a .version) ≡ 0 =
+    let none : recordsHeld (a .block) (a .version) ≡ 0 =
     no-records (a .block) (a .version) (omega arith) (omega arith)
     (⊎-elim (λ w l m. omega arith) (λ w l m. omega arith) (c .before .if3 .came)) in
     c .refused3 .ensures ∙ sym (absent _ _ _ (omega arith) (omega arith) (λ l m. omega arith))

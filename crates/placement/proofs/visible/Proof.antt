@@ -3,7 +3,7 @@
 use mathlib.Core.Path.{_≡_, sym, ap, _∙_}
 use native.Mathlib.Omega.{arith}
 use borrow.Author.Needs.{needs}
-use Rattle.placement.specs.Placement.{heldIn, recordsIn, placeOf}
+use Rattle.placement.specs.Placement.{heldIn, recordsHeld, placeOf}
 use Rattle.placement.specs.Table.{namedBy}
 use Rattle.placement.proofs.LawsPlacement.{absent}
 use Rattle.placement.proofs.LawsRecords.{one-record}
@@ -24,7 +24,7 @@ refused-requires : tie.Need-refused-requires
 refused-requires c κs = search needs
 
 returns : tie.Need-returns
-unfolding placeOf heldIn recordsIn namedBy
+unfolding placeOf heldIn recordsHeld namedBy
 returns c =
     let a = c .before .before .args in
     c .named .ensures ∙ visible-row _ tt (a .block) (omega arith) (omega arith) ∙ ap (placeOf (a .block) 0) (sym (c .before .if1 .taken))
@@ -32,7 +32,7 @@ returns c =
 returns-2 : tie.Need-returns-2
 returns-2 c =
     let block = c .before .before .args .block in
-    let one : recordsIn block 0 ≡ 1 = one-record block (omega arith) (omega arith) in
+    let one : recordsHeld block 0 ≡ 1 = one-record block (omega arith) (omega arith) in
     c .refused .ensures ∙ sym (absent _ _ _ (omega arith) (omega arith) (λ l m. c .before .if1 .left (omega arith)))
 
 pub visible-spec : {M : Type 1} → statement M

@@ -1,7 +1,6 @@
 -- `sample::put_scan` is safe and ends.
 -- Assumes nothing.
 use Prim.Native.Nat.{_-_, _≤_}
-use native.Mathlib.Omega.{arith}
 use borrow.Author.Needs.{needs}
 use Rattle.sample.proofs.put_scan.Statement.{statement}
 use Rattle.sample.proofs.put_scan.Tie as tie

@@ -7,7 +7,7 @@ use mir.Facts.{toZ-ofZ}
 use borrow.Author.Needs.{needs, sfits-of}
 use Rattle.tag.specs.Tags.{goodTag}
 use Rattle.tag.specs.Times.{between}
-use Rattle.tag.proofs.LawsTests.{first, second}
+use Rattle.ground.proofs.LawsTests.{first, second}
 use Rattle.tag.proofs.LawsTags.{reads, both-accepted}
 use Rattle.tag.proofs.LawsTimes.{answer, counted, not-counted}
 use Rattle.tag.proofs.elapsed.Statement.{statement}

@@ -1,14 +1,13 @@
 -- `bits::fill::zero_behind` meets its contract: the fill begins at a byte's first bit, or inside a byte.
 -- Assumes nothing.
-use Prim.Native.Nat.{ℕ, _+_, _-_, _*_, _/_, _%_, _^_, _≤_, _<_}
+use Prim.Native.Nat.{_+_, _-_, _*_, _/_, _%_, _≤_}
 use mathlib.Core.Path.{_≡_, sym, ap, _∙_}
 use native.Mathlib.Omega.{arith}
 use borrow.Author.Needs.{needs}
-use lib.ListN.{length}
 use lib.Pow.{pow-pos}
 use Rattle.bits.specs.Fields.{allZero}
 use Rattle.bits.proofs.LawsFill.{fill-at, fill-stops, fill-goes-on}
-use Rattle.bits.proofs.LawsFitting.{eights, last-byte, rest-short}
+use Rattle.bits.proofs.LawsFitting.{last-byte, rest-short}
 use Rattle.bits.proofs.TakeTurns.{one-shl}
 use Rattle.bits.proofs.fill.zero_behind.Statement.{statement}
 use Rattle.bits.proofs.fill.zero_behind.Tie as tie

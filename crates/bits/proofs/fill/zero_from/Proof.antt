@@ -1,6 +1,6 @@
 -- `bits::fill::zero_from` meets its contract: as long as each byte is zero, the test of all bytes is the test of those from k on.
 -- Assumes nothing.
-use Prim.Native.Nat.{ℕ, _-_, _≤_}
+use Prim.Native.Nat.{_-_, _≤_}
 use mathlib.Core.Path.{_≡_, refl, sym, _∙_}
 use native.Mathlib.Omega.{arith}
 use lib.ListN.{length, drop}

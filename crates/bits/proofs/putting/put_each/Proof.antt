@@ -1,6 +1,6 @@
 -- `bits::putting::put_each` meets its contract: each turn keeps the state of PutTurns. The measure falls by 9 for a byte, by 1 for a word.
 -- Assumes nothing.
-use Prim.Native.Nat.{ℕ, _+_, _-_, _*_, _%_, _^_, _≤_, _<_}
+use Prim.Native.Nat.{_+_, _-_, _*_, _%_, _^_, _<_}
 use native.Mathlib.Omega.{arith}
 use lib.ListN.{length, getD}
 use native.Mathlib.Nat.{lt-of-lt-of-le}

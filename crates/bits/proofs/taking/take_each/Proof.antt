@@ -1,6 +1,6 @@
 -- `bits::taking::take_each` meets its contract: each turn keeps the state of TakeTurns, by a byte read or a word written.
 -- Assumes nothing.
-use Prim.Native.Nat.{ℕ, _+_, _-_, _≤_, _<_}
+use Prim.Native.Nat.{_+_, _-_, _<_}
 use native.Mathlib.Omega.{arith}
 use lib.ListN.{length}
 use lib.Pow.{pow-mono, pow-pos}

@@ -1,18 +1,18 @@
 -- `check_word::eight::ends` meets its contract: the word stands for the register after i bytes, eight bytes a turn; then the register itself, a byte a turn.
 -- Assumes nothing.
-use mathlib.Core.Path.{_≡_, refl, sym, ap, _∙_, subst⁻¹}
+use mathlib.Core.Path.{_≡_, sym, ap, _∙_, subst⁻¹}
 use mathlib.Core.List.{List}
-use Prim.Native.Nat.{ℕ, _+_, _-_, _*_, _^_, _<_, _≤_}
+use Prim.Native.Nat.{ℕ, _+_, _-_, _<_, _≤_}
 use native.Mathlib.Omega.{arith}
 use borrow.Author.Needs.{needs}
 use lib.Bits.{bitXor}
-use lib.ListN.{length, take, drop, getD}
+use lib.ListN.{length, take, getD}
 use lib.Seq.{take-all}
 use Rattle.bits.specs.Bits.{bits, sent}
 use Rattle.check_word.specs.Check.{generator, feed, checkBy}
 use Rattle.bits.proofs.LawsBelow.{below-all}
 use Rattle.check_word.proofs.LawsFeed.{feed-next}
-use Rattle.check_word.specs.Eight.{big, joined, Stands}
+use Rattle.check_word.specs.Eight.{joined, Stands}
 use Rattle.check_word.proofs.LawsEight.{stands-next, finishes}
 use Rattle.check_word.proofs.eight.ends.Statement.{statement}
 use Rattle.check_word.proofs.eight.ends.Tie as tie

@@ -1,9 +1,6 @@
 -- `check_word::eight::load` meets its contract: eight bytes, the first one highest.
 -- Assumes nothing.
-use mathlib.Core.Path.{_≡_, sym, ap, _∙_}
-use Prim.Native.Nat.{ℕ, _+_, _*_, _<_}
 use native.Mathlib.Omega.{arith}
-use Rattle.check_word.specs.Eight.{big}
 use Rattle.check_word.proofs.LawsEight.{part-eight}
 use borrow.Author.Needs.{needs}
 use Rattle.check_word.proofs.eight.load.Statement.{statement}

@@ -1,14 +1,14 @@
 -- `check_word::window::check` meets its contract: the window stands for the register after i bytes, through both loops.
 -- Assumes nothing.
-use mathlib.Core.Path.{_≡_, refl, ap, _∙_, subst⁻¹}
-use mathlib.Core.List.{List, [], _∷_}
-use Prim.Native.Nat.{ℕ, _+_, _-_, _≤_}
+use mathlib.Core.Path.{refl, _∙_, subst⁻¹}
+use mathlib.Core.List.{[], _∷_}
+use Prim.Native.Nat.{_+_, _-_, _≤_}
 use native.Mathlib.Omega.{arith}
 use borrow.Author.Needs.{needs}
 use lib.ListN.{length}
 use Rattle.check_word.specs.Eight.{Stands}
 use Rattle.bits.proofs.LawsBelow.{below-all}
-use Rattle.check_word.specs.Turn.{raw, pushes}
+use Rattle.check_word.specs.Turn.{raw}
 use Rattle.check_word.proofs.LawsTurn.{Holds, begins, goes-on, cons, at-zero}
 use Rattle.check_word.proofs.window.check.Statement.{statement}
 use Rattle.check_word.proofs.window.check.Tie as tie

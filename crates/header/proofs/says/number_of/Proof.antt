@@ -5,7 +5,8 @@ use mathlib.Core.Bool.{Bool, _&&_}
 use native.Mathlib.Omega.{arith}
 use lib.Dec.{leb}
 use borrow.Author.Tests.{le-leb, lt-leb, ne-eqb}
-use Rattle.ground.proofs.LawsChoice.{yes, no, both, not-second}
+use Rattle.ground.proofs.LawsChoice.{yes, no}
+use Rattle.ground.proofs.LawsTests.{both, not-second}
 use Rattle.header.specs.Says.{numberOf}
 use Rattle.header.proofs.says.number_of.Statement.{statement}
 use Rattle.header.proofs.says.number_of.Tie as tie

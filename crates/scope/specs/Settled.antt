@@ -1,0 +1,116 @@
+-- Every public function, and that its contract settles its outcome.
+-- Assumes nothing.
+use mathlib.Core.Path.{_≡_}
+use denote.Ref.{now}
+use Rattle.bits.proofs.take_words
+use Rattle.bits.proofs.put_words
+use Rattle.bits.proofs.fill_is_zero
+use Rattle.check_word.proofs.check_word
+use Rattle.check_word.proofs.passes
+use Rattle.room.proofs.lay
+use Rattle.row.proofs.to_visible
+use Rattle.row.proofs.row_of
+use Rattle.row.proofs.permits
+use Rattle.row.proofs.field_bytes
+use Rattle.header.proofs.common_copy
+use Rattle.header.proofs.plan_of
+use Rattle.block.proofs.read
+use Rattle.records.proofs.locate
+use Rattle.records.proofs.record_in
+use Rattle.writer.proofs.write
+use Rattle.placement.proofs.place
+use Rattle.parity.proofs.parity_of
+use Rattle.parity.proofs.ground_of
+use Rattle.parity.proofs.check_sections
+use Rattle.tag.proofs.in_bounds
+use Rattle.tag.proofs.zero_tag
+use Rattle.tag.proofs.read_tag
+use Rattle.tag.proofs.write_tag
+use Rattle.tag.proofs.between
+use Rattle.tag.proofs.elapsed
+use Rattle.watch.proofs.begin
+use Rattle.watch.proofs.step
+use Rattle.watch.proofs.offer
+use Rattle.recording.proofs.front_of
+use Rattle.recording.proofs.next_field
+use Rattle.recording.proofs.line_of
+use Rattle.rahmisve.proofs.fields.rahmisve_check_word
+use Rattle.rahmisve.proofs.fields.rahmisve_take_words
+use Rattle.rahmisve.proofs.fields.rahmisve_put_words
+use Rattle.rahmisve.proofs.blocks.rahmisve_read
+use Rattle.rahmisve.proofs.blocks.rahmisve_plan
+use Rattle.rahmisve.proofs.blocks.rahmisve_write
+use Rattle.rahmisve.proofs.detectors.rahmisve_record
+use Rattle.rahmisve.proofs.detectors.rahmisve_place
+use Rattle.rahmisve.proofs.sections.rahmisve_parity_imager
+use Rattle.rahmisve.proofs.sections.rahmisve_parity_sounder
+use Rattle.rahmisve.proofs.tags.rahmisve_read_tag
+use Rattle.rahmisve.proofs.tags.rahmisve_write_tag
+use Rattle.rahmisve.proofs.tags.rahmisve_elapsed
+use Rattle.rahmisve.proofs.watches.rahmisve_watch_begin
+use Rattle.rahmisve.proofs.watches.rahmisve_watch_offer
+use Rattle.scope.specs.Outcomes.{Settled, SettledUpTo, offered}
+
+pub record AllSettled : Type 0 where
+  -- bits
+  pub take-words : Settled take_words.ended take_words.Reads.Learnt
+  pub put-words : Settled put_words.ended put_words.Reads.Learnt
+  pub fill-is-zero : Settled fill_is_zero.ended fill_is_zero.Reads.Learnt
+  -- check_word
+  pub check-word : Settled check_word.ended check_word.Reads.Learnt
+  pub passes : Settled passes.ended passes.Reads.Learnt
+  -- room
+  pub lay : Settled lay.ended lay.Reads.Learnt
+  -- row
+  pub to-visible : Settled to_visible.ended to_visible.Reads.Learnt
+  pub row-of : Settled row_of.ended row_of.Reads.Learnt
+  pub permits : Settled permits.ended permits.Reads.Learnt
+  pub field-bytes : Settled field_bytes.ended field_bytes.Reads.Learnt
+  -- header
+  pub common-copy : Settled common_copy.ended common_copy.Reads.Learnt
+  pub plan-of : Settled plan_of.ended plan_of.Reads.Learnt
+  -- block
+  pub read : Settled read.ended read.Reads.Learnt
+  -- records
+  pub locate : Settled locate.ended locate.Reads.Learnt
+  -- the words of the part; where it stands is left open
+  pub record-in : SettledUpTo record_in.ended (λ _ a b. now a ≡ now b) record_in.Reads.Learnt
+  -- writer
+  pub write : Settled write.ended write.Reads.Learnt
+  -- placement
+  pub place : Settled place.ended place.Reads.Learnt
+  -- parity
+  pub parity-of : Settled parity_of.ended parity_of.Reads.Learnt
+  pub ground-of : Settled ground_of.ended ground_of.Reads.Learnt
+  pub check-sections : Settled check_sections.ended check_sections.Reads.Learnt
+  -- tag
+  pub in-bounds : Settled in_bounds.ended in_bounds.Reads.Learnt
+  pub zero-tag : Settled zero_tag.ended zero_tag.Reads.Learnt
+  pub read-tag : Settled read_tag.ended read_tag.Reads.Learnt
+  pub write-tag : Settled write_tag.ended write_tag.Reads.Learnt
+  pub between : Settled between.ended between.Reads.Learnt
+  pub elapsed : Settled elapsed.ended elapsed.Reads.Learnt
+  -- watch
+  pub begin : Settled begin.ended begin.Reads.Learnt
+  pub step : Settled step.ended step.Reads.Learnt
+  pub offer : Settled offer.ended offered
+  -- recording
+  pub front-of : Settled front_of.ended front_of.Reads.Learnt
+  pub next-field : Settled next_field.ended next_field.Reads.Learnt
+  pub line-of : Settled line_of.ended line_of.Reads.Learnt
+  -- rahmisve
+  pub rahmisve-check-word : Settled rahmisve_check_word.ended rahmisve_check_word.Reads.Learnt
+  pub rahmisve-take-words : Settled rahmisve_take_words.ended rahmisve_take_words.Reads.Learnt
+  pub rahmisve-put-words : Settled rahmisve_put_words.ended rahmisve_put_words.Reads.Learnt
+  pub rahmisve-read : Settled rahmisve_read.ended rahmisve_read.Reads.Learnt
+  pub rahmisve-plan : Settled rahmisve_plan.ended rahmisve_plan.Reads.Learnt
+  pub rahmisve-write : Settled rahmisve_write.ended rahmisve_write.Reads.Learnt
+  pub rahmisve-record : Settled rahmisve_record.ended rahmisve_record.Reads.Learnt
+  pub rahmisve-place : Settled rahmisve_place.ended rahmisve_place.Reads.Learnt
+  pub rahmisve-parity-imager : Settled rahmisve_parity_imager.ended rahmisve_parity_imager.Reads.Learnt
+  pub rahmisve-parity-sounder : Settled rahmisve_parity_sounder.ended rahmisve_parity_sounder.Reads.Learnt
+  pub rahmisve-read-tag : Settled rahmisve_read_tag.ended rahmisve_read_tag.Reads.Learnt
+  pub rahmisve-write-tag : Settled rahmisve_write_tag.ended rahmisve_write_tag.Reads.Learnt
+  pub rahmisve-elapsed : Settled rahmisve_elapsed.ended rahmisve_elapsed.Reads.Learnt
+  pub rahmisve-watch-begin : Settled rahmisve_watch_begin.ended rahmisve_watch_begin.Reads.Learnt
+  pub rahmisve-watch-offer : Settled rahmisve_watch_offer.ended rahmisve_watch_offer.Reads.Learnt
