@@ -531,6 +531,8 @@ static void read_tag(void)
     fresh();
     IS(rahmisve_read_tag(marked_tag, 8, at.time + 1) == 0 && memcmp(at.time + 1, marked_time, 28) == 0);
     IS(ones(at.time, 4) && ones(at.time + 8, 4));
+    IS(at.time[1 + RAHMISVE_YEAR] == 1987 && at.time[1 + RAHMISVE_DAY] == 234 && at.time[1 + RAHMISVE_HOUR] == 21);
+    IS(at.time[1 + RAHMISVE_MINUTE] == 43 && at.time[1 + RAHMISVE_SECOND] == 56 && at.time[1 + RAHMISVE_MILLISECOND] == 789);
     IS(rahmisve_read_tag(day_60, 8, at.time + 1) == 0 && memcmp(at.time + 1, time_60, 28) == 0);
     told("read_tag: seven numbers, each in its place");
     uint8_t bad[8];

@@ -8,7 +8,7 @@ use mathlib.Core.Bool.{Bool, true, not}
 use native.Mathlib.Omega.{arith}
 use mathlib.Core.List.{List, [], _∷_, _++_}
 use lib.ListN.{length, take, drop, length-drop}
-use borrow.Author.Tests.{ltb-false, le-ltb, eq-eqb}
+use borrow.Author.Tests.{ltb-true, ltb-false, le-ltb, eq-eqb}
 use Rattle.ground.specs.Grounds.{_when_}
 use Rattle.ground.proofs.LawsTests.{never}
 use Rattle.ground.proofs.LawsGrounds.{accepts, refuses, reads-number, none-first, first-none, exactly}
@@ -19,16 +19,17 @@ use Rattle.check_word.specs.Check.{generator, passes}
 use Rattle.check_word.specs.Finds.{Passes}
 use Rattle.check_word.proofs.LawsPasses.{passes-true, true-passes}
 use Rattle.row.specs.Field.{fieldBytes}
-use Rattle.row.proofs.LawsField.{bits-whole, fields-even}
+use Rattle.row.proofs.LawsField.{bits-whole, fields-even, words-at-most}
 use Rattle.header.specs.Says.{blockIn, wordsIn, bytesIn}
 use Rattle.header.specs.Copies.{copiesLength, copyAt, tooShort, noCopyPasses, headerIn}
+use Rattle.header.proofs.LawsAsks.{none-asks}
 use Rattle.header.proofs.LawsAgreed.{copy-bytes, none-passes, passes-none}
 use Rattle.block.specs.declared.Answer.{Answer}
 use Rattle.block.specs.Layout.{informationField}
-use Rattle.block.specs.Grounds.{offBoundary, groundsOf, refusalOf}
+use Rattle.block.specs.Grounds.{offBoundary, smallRoom, groundsOf, refusalOf}
 use Rattle.block.specs.Answers.{refusedAnswer, acceptedAnswer, answerOf, wordsBy, roomAfter}
 use Rattle.block.specs.Meets.{Meets}
-use Rattle.block.specs.Promises.{Accepted, RefusesInOrder, RefusesExactly, RefusalLeaves, TwoExactly, SeventeenNever, FillMeasured, AcceptsExactly, AnswersTruly, GivesWords}
+use Rattle.block.specs.Promises.{Accepted, RefusesInOrder, RefusesExactly, RefusalLeaves, TwoExactly, SeventeenNever, NineNever, FillMeasured, AcceptsExactly, AnswersTruly, GivesWords}
 use Rattle.block.proofs.LawsMeets.{none-meets, meets-none, header-is, words-are, size-is, bytes-are, refused-9}
 
 -- ---- refusals
@@ -69,6 +70,15 @@ seventeen-never block room e =
     let even = fields-even (blockIn h) (wordsIn h) in
     let whole : (copiesLength + bytesIn h) % 2 ≡ 0 = omega arith in
     never (sym (ap not (eq-eqb ((copiesLength + bytesIn h) % 2) 0 whole)) ∙ odd)
+
+pub nine-never : NineNever
+nine-never block room enough e =
+    let h = headerIn block in
+    let small = refuses-exactly block room (take 9 (groundsOf block h room)) (9 when smallRoom (wordsIn h) room) _ refl .0 e in
+    let n = small .0 .1 .1 .1 in
+    let asks = none-asks h (n .0, (n .1 .0, (n .1 .1 .0, (n .1 .1 .1 .0, tt)))) in
+    let most = words-at-most _ _ _ _ (asks .suits) in
+    absurd (omega (arith, ltb-true room (wordsIn h) (small .1)))
 
 pub fill-measured : FillMeasured
 unfolding fillOf fieldBytes

@@ -13,6 +13,7 @@ use Rattle.bits.specs.Runs.{Altered}
 use Rattle.check_word.specs.Check.{generator}
 use Rattle.check_word.specs.Finds.{Passes}
 use Rattle.row.specs.Field.{fieldBytes, fillBits}
+use Rattle.row.specs.Promises.{mostWords}
 use Rattle.header.specs.Says.{headerLength}
 use Rattle.header.specs.Copies.{copyLength, copyAt, headerIn}
 use Rattle.header.specs.Agreed.{NoneAgreed}
@@ -48,6 +49,10 @@ TwoExactly = (block : List ℕ) (room : ℕ) → Below 256 block → (answerOf b
 -- Refusal 17 is given to no block: every field is an even number of bytes.
 abbrev pub SeventeenNever : Type 0
 SeventeenNever = (block : List ℕ) (room : ℕ) → answerOf block room .number ≡ 17 → ⊥
+
+-- Room for the words of the largest block is room for any: 9 is not given.
+abbrev pub NineNever : Type 0
+NineNever = (block : List ℕ) (room : ℕ) → mostWords ≤ room → answerOf block room .number ≡ 9 → ⊥
 
 -- The fill that is tested has as many bits as the field has beside its words.
 abbrev pub FillMeasured : Type 0

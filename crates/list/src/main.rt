@@ -4,6 +4,7 @@ ghost use mathlib.Core.Path.{_≡_};
 ghost use mathlib.Core.Logic.{_⊎_};
 ghost use Prim.Native.Nat.{_<_, _≤_};
 ghost use lib.ListN.{length};
+ghost use Rattle.row.specs.Promises.{mostWords};
 ghost use Rattle.recording.specs.Lines.{mostFields};
 use libc::STDIN_FILENO;
 use libc::STDOUT_FILENO;
@@ -72,6 +73,7 @@ fn has_failed(fd: i32) -> bool {
 fn list_field(fd: i32, name: &[u8], seen: u64, field: &mut [u8], room: &mut [u16]) -> u64
     requires { ⌜ seen < mostFields ⌝ }
     requires { ⌜ 65538 ≤ length (now field) ⌝ }
+    requires { ⌜ mostWords ≤ length (now room) ⌝ }
     ensures { λ r. ⌜ (r ≡ 0) ⊎ (seen < r) ⌝ }
 {
     let got = read_field(fd, field);
@@ -108,6 +110,7 @@ fn finish(fd: i32, name: &[u8], how: &[u8], fields: u64) {
 // A proved loop has to end, and nothing says that a recording does: so it goes to a number of fields that none has.
 fn list_fields(fd: i32, name: &[u8], field: &mut [u8], room: &mut [u16])
     requires { ⌜ 65538 ≤ length (now field) ⌝ }
+    requires { ⌜ mostWords ≤ length (now room) ⌝ }
 {
     let mut seen: u64 = 0;
     while seen < u64::MAX {

@@ -8,16 +8,19 @@ use Prim.Native.Nat.{ℕ, _+_, _*_, _/_, _%_, _<_, _≤_}
 use native.Mathlib.Nat.{add-zero, div-add-mod'}
 use native.Mathlib.Omega.{arith}
 use borrow.Author.Tests.{le-leb, lt-leb, lt-ltb, le-ltb, ltb-false}
-use lib.Dec.{ltb}
+use lib.Dec.{eqb, ltb}
 use lib.ListN.{length, getD, take, drop, length-append}
 use lib.Seq.{getD-append-add, getD-take, drop-append-add, take-at, length-take-le}
 use Rattle.ground.specs.Choice.{pick}
-use Rattle.ground.proofs.LawsChoice.{yes, no}
+use Rattle.ground.proofs.LawsChoice.{yes, no, either}
+use Rattle.block.specs.Answers.{answerOf}
+use Rattle.block.proofs.KeepsReader.{nine-never as small}
 use Rattle.recording.specs.Fields.{Field, written, joined}
 use Rattle.recording.specs.Found.{frontLength, lengthAt, foundAt}
-use Rattle.recording.specs.Lines.{mostFields, lineOf, countAfter}
-use Rattle.recording.specs.Promises.{Reads, Counts}
+use Rattle.recording.specs.Lines.{mostFields, holdsBlock, lineOf, countAfter}
+use Rattle.recording.specs.Promises.{Reads, NineNever, Counts}
 use Rattle.recording.proofs.LawsLines.{line-seq, seq-next}
+use Rattle.recording.specs.declared.Line.{Line}
 use Rattle.recording.specs.declared.Found.the-variants.{Whole, Cut}
 
 length-written : (f : Field) → length (written f) ≡ frontLength + length (f .body)
@@ -89,6 +92,13 @@ reads before = record {
   cut = λ f k some short. cut (joined before) f k some short;
   end = sym (yes _ refl (le-leb (length (joined before)) (length (joined before)) (omega arith)) refl);
 }
+
+pub nine-never : NineNever
+unfolding lineOf
+nine-never before tag body room enough =
+    either (λ (l : Line). l .answer ≡ 9 → ⊥) (holdsBlock tag)
+    (λ _. either (λ (l : Line). l .answer ≡ 9 → ⊥) (eqb (answerOf body room .number) 0) (λ _ e. omega arith) (λ _. small body room enough))
+    (λ _ e. omega arith)
 
 count-from : (before : ℕ) (fields : List Field) (room : ℕ) → before + length fields ≤ mostFields → countAfter before fields room ≡ before + length fields
 unfolding countAfter

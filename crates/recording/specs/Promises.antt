@@ -5,9 +5,10 @@ use Prim.Native.Nat.{ℕ, _+_, _<_, _≤_}
 use mathlib.Core.Path.{_≡_}
 use mathlib.Core.List.{List, _++_}
 use lib.ListN.{length, take, drop}
+use Rattle.row.specs.Promises.{mostWords}
 use Rattle.recording.specs.Fields.{Field, written, joined}
 use Rattle.recording.specs.Found.{frontLength, foundAt}
-use Rattle.recording.specs.Lines.{mostFields, countAfter}
+use Rattle.recording.specs.Lines.{mostFields, lineOf, countAfter}
 use Rattle.recording.specs.declared.Found.the-variants.{Whole, Cut, End}
 
 pub record Reads (before : List Field) : Type 0 where
@@ -21,5 +22,10 @@ pub record Reads (before : List Field) : Type 0 where
       → foundAt (joined before ++ take k (written f)) (length (joined before)) ≡ Cut
   pub end : foundAt (joined before) (length (joined before)) ≡ End
 
+-- With room for the words of the largest block no field is refused for want of room.
+abbrev pub NineNever : Type 0
+NineNever = (before tag : ℕ) (body : List ℕ) (room : ℕ) → mostWords ≤ room → lineOf before tag body room .answer ≡ 9 → ⊥
+
+-- The number of the last line is the count of the fields.
 abbrev pub Counts : List Field → Type 0
 Counts fields = (room : ℕ) → length fields ≤ mostFields → countAfter 0 fields room ≡ length fields

@@ -11,7 +11,7 @@ use Rattle.row.specs.Pixels.{imageSize}
 use Rattle.row.specs.Rows.{fixedBits}
 use Rattle.row.specs.Field.{upTo16, fieldBits, fieldBytes}
 use Rattle.row.specs.Suits.{zeroth, first, second, others, last6, last8, last10}
-use Rattle.row.specs.Promises.{FieldsEven, longestField, Held, WordsHeld}
+use Rattle.row.specs.Promises.{WordsAtMost, FieldsEven, longestField, Held, WordsHeld}
 
 pub bits-whole : (b n : ℕ) → fieldBits b n % 16 ≡ 0
 unfolding fieldBits
@@ -32,6 +32,15 @@ image-held b n e most =
       fits = subst (λ (bits : ℕ). n * imageSize ≤ bits / 8 * 8) k (omega arith);
       short = subst (λ (bits : ℕ). bits / 8 ≤ longestField) k (omega arith);
     }
+
+pub words-at-most : WordsAtMost
+words-at-most _ _ _ _ zeroth = lit≤ tt
+words-at-most _ _ _ _ (first s) = omega (arith, s .wide)
+words-at-most _ _ _ _ (second s) = omega (arith, s .wide)
+words-at-most _ _ _ _ (others l h s) = omega (arith, s .wide)
+words-at-most _ _ _ _ last6 = lit≤ tt
+words-at-most _ _ _ _ last8 = lit≤ tt
+words-at-most _ _ _ _ last10 = lit≤ tt
 
 pub words-held : WordsHeld
 unfolding fieldBytes fieldBits

@@ -33,6 +33,13 @@ pub record Held (size count bytes : ℕ) : Type 0 where
 abbrev pub WordsHeld : Type 0
 WordsHeld = (block version size count : ℕ) → Suits block version size count → Held size count (fieldBytes block count)
 
+-- no block has more words than these, block 1 of the widest scan
+abbrev pub mostWords : ℕ
+mostWords = 21008
+
+abbrev pub WordsAtMost : Type 0
+WordsAtMost = (block version size count : ℕ) → Suits block version size count → count ≤ mostWords
+
 -- every field is an even number of bytes
 abbrev pub FieldsEven : Type 0
 FieldsEven = (block count : ℕ) → fieldBytes block count % 2 ≡ 0

@@ -1,10 +1,10 @@
--- Rows 9 to 12 of the table, by computation.
+-- Rows 9 to 12 of the table, and a tag whose numbers all differ, by computation.
 -- Assumes nothing.
 use mathlib.Core.Path.{refl}
 use Rattle.tag.specs.Digits.{digitsOf, decimal, valueOf}
 use Rattle.tag.specs.Tags.{tagOf, inBounds, goodTag, readTag}
 use Rattle.tag.specs.Times.{timeOf, elapsedOf}
-use Rattle.tag.specs.Table.{Row9, Row10, Row11, Row12}
+use Rattle.tag.specs.Table.{Row9, Row10, Row11, Row12, AllDiffer}
 use Rattle.tag.proofs.LawsCalendar.{quick}
 
 pub row9 : Row9
@@ -22,3 +22,7 @@ row11 = record { good = refl; bad = refl }
 pub row12 : Row12
 unfolding digitsOf decimal valueOf tagOf inBounds goodTag timeOf elapsedOf
 row12 = record { a-day = rw (← quick 2007, ← quick 2008) }
+
+pub all-differ : AllDiffer
+unfolding digitsOf decimal valueOf tagOf inBounds goodTag readTag
+all-differ = refl

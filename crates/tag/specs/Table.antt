@@ -1,4 +1,5 @@
--- Rows 9 to 12 of the table to prove, on time tags. The bytes are written in hexadecimal, as the scope has them.
+-- Rows 9 to 12 of the table to prove, on time tags, and a tag whose numbers all differ. The bytes are written in hexadecimal, as the scope
+-- has them.
 -- Assumes nothing.
 use mathlib.Core.Path.{_≡_}
 use Prim.Native.Nat.{ℕ}
@@ -42,3 +43,9 @@ pub record Row11 : Type 0 where
 pub record Row12 : Type 0 where
   pub a-day : elapsedOf (0x20 ∷ 0x07 ∷ 0x36 ∷ 0x50 ∷ 0x00 ∷ 0x00 ∷ 0x00 ∷ 0x00 ∷ []) (0x20 ∷ 0x08 ∷ 0x00 ∷ 0x10 ∷ 0x00 ∷ 0x00 ∷ 0x00 ∷ 0x00 ∷ [])
       ≡ record { number = 0; ms = pos 86400000 }
+
+-- The rows have minute and second alike. Tag 19 87 A3 42 14 35 67 89 is 1987 day 234, 21:43:56.789, flywheel on.
+abbrev pub AllDiffer : Type 0
+AllDiffer =
+    readTag (0x19 ∷ 0x87 ∷ 0xA3 ∷ 0x42 ∷ 0x14 ∷ 0x35 ∷ 0x67 ∷ 0x89 ∷ [])
+    ≡ record { number = 0; tag = record { year = 1987; day = 234; hour = 21; minute = 43; second = 56; ms = 789; flywheel = true } }

@@ -1,6 +1,7 @@
 //! recordings DIR [SEED COUNT]: writes recordings for the listing program into DIR, each as NAME.rec beside the
 //! listing that the model gives it, NAME.txt: one with every answer that a listing can have, the printed example,
-//! what the program `sample` makes, an empty one, one cut in a tag, a length and a body each, and COUNT random ones.
+//! what the program `sample` makes, the widest scan, an empty one, one cut in a tag, a length and a body each, and
+//! COUNT random ones.
 
 use std::path::Path;
 use std::process::ExitCode;
@@ -12,12 +13,12 @@ use independent::inputs::{field, recording, Dice};
 use independent::recording::list;
 use independent::rows::{c_of_n, id_of_block};
 
-/// A block of the narrowest scan, or of the fixed length.
-fn block(number: u8, version: u8) -> Vec<u8> {
+/// A block of a scan of `n` pixels, or of the fixed length.
+fn scanned(number: u8, version: u8, n: usize) -> Vec<u8> {
     let (size, c) = match number {
         0 => (8, 8_040),
         11 => [(6, 10_720), (8, 8_040), (10, 6_432), (8, 8_040)][version as usize],
-        _ => (10, c_of_n(number, 1)),
+        _ => (10, c_of_n(number, n)),
     };
     let words: Vec<u16> = (0..c).map(|k| ((k * 7 + version as usize) % (1 << size)) as u16).collect();
     let mut dest = vec![0; 32_000];
@@ -25,6 +26,11 @@ fn block(number: u8, version: u8) -> Vec<u8> {
     assert_eq!(answer, 0);
     dest.truncate(length);
     dest
+}
+
+/// The same of the narrowest scan.
+fn block(number: u8, version: u8) -> Vec<u8> {
+    scanned(number, version, 1)
 }
 
 /// The same block with three equal copies of another header, their checks right.
@@ -120,6 +126,11 @@ fn sample() -> Vec<u8> {
     bytes
 }
 
+/// The blocks of the widest scan, which take the most room.
+fn widest() -> Vec<u8> {
+    (1..=10).flat_map(|number| field(1, &scanned(number, 2, 5_236))).collect()
+}
+
 fn save(dir: &Path, name: &str, bytes: &[u8]) -> std::io::Result<()> {
     std::fs::write(dir.join(format!("{name}.rec")), bytes)?;
     std::fs::write(dir.join(format!("{name}.txt")), list(bytes))
@@ -129,6 +140,7 @@ fn save_all(dir: &Path, seed: u64, count: u64) -> std::io::Result<()> {
     save(dir, "every", &every_answer())?;
     save(dir, "example", &example())?;
     save(dir, "sample", &sample())?;
+    save(dir, "widest", &widest())?;
     save(dir, "empty", &[])?;
     let whole = field(1, &block(5, 0));
     for (name, end) in [("cut-tag", 1), ("cut-length", 2), ("cut-front", 3), ("cut-body", 1_000)] {

@@ -6,11 +6,12 @@ use Prim.Native.Nat.{ℕ, _-_, _<_, _≤_}
 use native.Mathlib.Omega.{arith}
 use lib.ListN.{length}
 use borrow.Author.Needs.{needs}
+use Rattle.row.specs.Promises.{mostWords}
 use Rattle.list.proofs.list_fields.Statement.{statement}
 use Rattle.list.proofs.list_fields.Tie as tie
 
 abbrev Inv-loop : tie.InvT-loop
-Inv-loop fd name field₀ room₀ seen₀ field room seen = (65538 ≤ length field) × (length field ≡ length field₀) × (length room ≡ length room₀)
+Inv-loop fd name field₀ room₀ seen₀ field room seen = (65538 ≤ length field) × (mostWords ≤ length room) × (length field ≡ length field₀) × (length room ≡ length room₀)
 
 abbrev μ-loop : tie.MeasureT-loop
 μ-loop fd name field₀ room₀ seen₀ field room seen = 18446744073709551615 - seen
