@@ -29,30 +29,30 @@ Accepted block room = answerOf block room .number ≡ 0
 
 -- The number given is that of the first ground of the list that holds.
 abbrev pub RefusesInOrder : Type 0
-RefusesInOrder = (block : List ℕ) (room : ℕ) → answerOf block room .number ≡ firstOf (groundsOf block (headerIn block) room)
+RefusesInOrder = (block : List ℕ) (lent : ℕ) → answerOf block lent .number ≡ firstOf (groundsOf block (headerIn block) lent)
 
 -- Each refusal is given exactly on its ground: it holds, and none before it in the list does.
 abbrev pub RefusesExactly : Type 0
 RefusesExactly =
-    (block : List ℕ) (room : ℕ) (before : List Ground) (g : Ground) (after : List Ground) → groundsOf block (headerIn block) room ≡ before ++ (g ∷ after)
-    → (answerOf block room .number ≡ g .number) ↔ (NoneHolds before × (g .holds ≡ true))
+    (block : List ℕ) (lent : ℕ) (before : List Ground) (g : Ground) (after : List Ground) → groundsOf block (headerIn block) lent ≡ before ++ (g ∷ after)
+    → (answerOf block lent .number ≡ g .number) ↔ (NoneHolds before × (g .holds ≡ true))
 
 -- Every count, mark and header byte in a refusal is zero, and it leaves every lent word unchanged.
 pub record RefusalLeaves : Type 0 where
-  pub zeros : (block : List ℕ) (room : ℕ) → (Accepted block room → ⊥) → answerOf block room ≡ refusedAnswer (answerOf block room .number)
+  pub zeros : (block : List ℕ) (lent : ℕ) → (Accepted block lent → ⊥) → answerOf block lent ≡ refusedAnswer (answerOf block lent .number)
   pub unchanged : (block room : List ℕ) → (Accepted block (length room) → ⊥) → roomAfter block room ≡ room
 
 -- Refusal 2 is given exactly when 90 bytes are there and none of the three copies passes.
 abbrev pub TwoExactly : Type 0
-TwoExactly = (block : List ℕ) (room : ℕ) → Below 256 block → (answerOf block room .number ≡ 2) ↔ NoneAgreed block
+TwoExactly = (block : List ℕ) (lent : ℕ) → Below 256 block → (answerOf block lent .number ≡ 2) ↔ NoneAgreed block
 
 -- Refusal 17 is given to no block: every field is an even number of bytes.
 abbrev pub SeventeenNever : Type 0
-SeventeenNever = (block : List ℕ) (room : ℕ) → answerOf block room .number ≡ 17 → ⊥
+SeventeenNever = (block : List ℕ) (lent : ℕ) → answerOf block lent .number ≡ 17 → ⊥
 
 -- Room for the words of the largest block is room for any: 9 is not given.
 abbrev pub NineNever : Type 0
-NineNever = (block : List ℕ) (room : ℕ) → mostWords ≤ room → answerOf block room .number ≡ 9 → ⊥
+NineNever = (block : List ℕ) (lent : ℕ) → mostWords ≤ lent → answerOf block lent .number ≡ 9 → ⊥
 
 -- The fill that is tested has as many bits as the field has beside its words.
 abbrev pub FillMeasured : Type 0
@@ -62,17 +62,17 @@ FillMeasured = (number size count : ℕ) (field : List ℕ) → length field ≡
 
 -- A block that is given room is accepted exactly when it meets the specification; one that meets it and is given less is refusal 9.
 pub record AcceptsExactly : Type 0 where
-  pub accepts : (block : List ℕ) (room : ℕ) → Below 256 block → (m : Meets block) → m .words ≤ room → Accepted block room
-  pub only : (block : List ℕ) (room : ℕ) → Below 256 block → Accepted block room → (m : Meets block) × (m .words ≤ room)
-  pub small : (block : List ℕ) (room : ℕ) → Below 256 block → (m : Meets block) → room < m .words → answerOf block room .number ≡ 9
+  pub accepts : (block : List ℕ) (lent : ℕ) → Below 256 block → (m : Meets block) → m .words ≤ lent → Accepted block lent
+  pub only : (block : List ℕ) (lent : ℕ) → Below 256 block → Accepted block lent → (m : Meets block) × (m .words ≤ lent)
+  pub small : (block : List ℕ) (lent : ℕ) → Below 256 block → (m : Meets block) → lent < m .words → answerOf block lent .number ≡ 9
 
 -- The answer is the common header and the count of words, and which copies passed.
 pub record AnswersTruly : Type 0 where
-  pub header : (block : List ℕ) (room : ℕ) → Below 256 block → (m : Meets block) → m .words ≤ room → answerOf block room .header ≡ take headerLength (m .copy)
-  pub count : (block : List ℕ) (room : ℕ) → Below 256 block → (m : Meets block) → m .words ≤ room → answerOf block room .words ≡ m .words
-  pub first : (block : List ℕ) (room : ℕ) → Below 256 block → Accepted block room → (answerOf block room .first ≡ true) ↔ Passes generator (copyAt 0 block)
-  pub second : (block : List ℕ) (room : ℕ) → Below 256 block → Accepted block room → (answerOf block room .second ≡ true) ↔ Passes generator (copyAt 1 block)
-  pub third : (block : List ℕ) (room : ℕ) → Below 256 block → Accepted block room → (answerOf block room .third ≡ true) ↔ Passes generator (copyAt 2 block)
+  pub header : (block : List ℕ) (lent : ℕ) → Below 256 block → (m : Meets block) → m .words ≤ lent → answerOf block lent .header ≡ take headerLength (m .copy)
+  pub count : (block : List ℕ) (lent : ℕ) → Below 256 block → (m : Meets block) → m .words ≤ lent → answerOf block lent .words ≡ m .words
+  pub first : (block : List ℕ) (lent : ℕ) → Below 256 block → Accepted block lent → (answerOf block lent .first ≡ true) ↔ Passes generator (copyAt 0 block)
+  pub second : (block : List ℕ) (lent : ℕ) → Below 256 block → Accepted block lent → (answerOf block lent .second ≡ true) ↔ Passes generator (copyAt 1 block)
+  pub third : (block : List ℕ) (lent : ℕ) → Below 256 block → Accepted block lent → (answerOf block lent .third ≡ true) ↔ Passes generator (copyAt 2 block)
 
 -- The words in the room are those cut from the field's bits, and nothing behind them has changed; where words were sent, they are these.
 pub record GivesWords : Type 0 where

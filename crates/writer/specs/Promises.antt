@@ -21,19 +21,19 @@ use Rattle.writer.specs.Answers.{writtenBlock, writeGrounds, refusedWrit
 
 -- the writer accepts a header and words, lent room for so many bytes
 abbrev pub Writable : (header words : List ℕ) → ℕ → Type 0
-Writable header words room = writtenOf header words room .number ≡ 0
+Writable header words lent = writtenOf header words lent .number ≡ 0
 
 -- ---- refusals
 
 -- The number given is that of the first ground of the list that holds.
 abbrev pub RefusesInOrder : Type 0
-RefusesInOrder = (header words : List ℕ) (room : ℕ) → writtenOf header words room .number ≡ firstOf (writeGrounds header words room)
+RefusesInOrder = (header words : List ℕ) (lent : ℕ) → writtenOf header words lent .number ≡ firstOf (writeGrounds header words lent)
 
 -- Each refusal is given exactly on its ground: it holds, and none before it in the list does.
 abbrev pub RefusesExactly : Type 0
 RefusesExactly =
-    (header words : List ℕ) (room : ℕ) (before : List Ground) (g : Ground) (after : List Ground) → writeGrounds header words room ≡ before ++ (g ∷ after)
-    → (writtenOf header words room .number ≡ g .number) ↔ (NoneHolds before × (g .holds ≡ true))
+    (header words : List ℕ) (lent : ℕ) (before : List Ground) (g : Ground) (after : List Ground) → writeGrounds header words lent ≡ before ++ (g ∷ after)
+    → (writtenOf header words lent .number ≡ g .number) ↔ (NoneHolds before × (g .holds ≡ true))
 
 -- The count in a refusal is zero, and it leaves every lent byte unchanged.
 pub record RefusalLeaves : Type 0 where
@@ -54,10 +54,10 @@ pub record AsksFor (header words : List ℕ) : Type 0 where
 
 -- The writer accepts exactly the words that a header asks for, where it is lent as many bytes as the block has.
 pub record WritesExactly : Type 0 where
-  pub accepts : (header words : List ℕ) (room : ℕ) (a : AsksFor header words) → blockLength (fieldBytes (a .number) (length words)) ≤ room
-      → Writable header words room
-  pub only : (header words : List ℕ) (room : ℕ) → Writable header words room
-      → (a : AsksFor header words) × (blockLength (fieldBytes (a .number) (length words)) ≤ room)
+  pub accepts : (header words : List ℕ) (lent : ℕ) (a : AsksFor header words) → blockLength (fieldBytes (a .number) (length words)) ≤ lent
+      → Writable header words lent
+  pub only : (header words : List ℕ) (lent : ℕ) → Writable header words lent
+      → (a : AsksFor header words) × (blockLength (fieldBytes (a .number) (length words)) ≤ lent)
 
 -- writing a header and words leaves the block at the front of the room and nothing changed behind it, and returns its count of bytes
 pub record Puts (header words block room : List ℕ) : Type 0 where
@@ -70,7 +70,7 @@ WritesFront = (header words room : List ℕ) → Writable header words (length r
 
 -- What is written are blocks: they meet the specification, by which the reader goes.
 abbrev pub WritesBlocks : Type 0
-WritesBlocks = (header words : List ℕ) (room : ℕ) → Writable header words room → Meets (writtenBlock header words)
+WritesBlocks = (header words : List ℕ) (lent : ℕ) → Writable header words lent → Meets (writtenBlock header words)
 
 -- ---- demand 2: there and back
 
@@ -104,5 +104,5 @@ pub record CopiesEqual (block : List ℕ) : Type 0 where
 -- Rewriting an accepted block whose copies are equal returns its bytes.
 abbrev pub WritesBack : Type 0
 WritesBack =
-    (block room lent : List ℕ) → Below 256 block → Accepted block (length room) → CopiesEqual block → length block ≤ length lent
-    → Puts (headerRead block room) (wordsRead block room) block lent
+    (block room dest : List ℕ) → Below 256 block → Accepted block (length room) → CopiesEqual block → length block ≤ length dest
+    → Puts (headerRead block room) (wordsRead block room) block dest
