@@ -12,18 +12,19 @@ use Rattle.ground.specs.Grounds.{firstOf}
 use Rattle.ground.proofs.LawsChoice.{either}
 use Rattle.ground.proofs.LawsGrounds.{accepts, refuses, reads-number, none-first, first-none}
 use Rattle.bits.specs.Bits.{Below}
-use Rattle.row.specs.Field.{fieldBytes}
+use Rattle.row.specs.Rows.{recordsIn, rowOf, permits}
+use Rattle.row.specs.Field.{fieldBits, fieldBytes}
 use Rattle.row.specs.Promises.{longestField, Held}
 use Rattle.row.proofs.LawsRow.{row-records}
 use Rattle.row.proofs.LawsField.{words-held}
 use Rattle.header.specs.declared.Common.{Common}
 use Rattle.header.specs.declared.Plan.{Plan}
-use Rattle.header.specs.Says.{headerLength, blockIn, sizeIn, wordsIn, versionIn, bytesIn}
+use Rattle.header.specs.Says.{headerLength, numberOf, blockIn, sizeIn, wordsIn, versionIn, bytesIn}
 use Rattle.header.specs.Copies.{copyAt, commonIn, copiesGrounds, foundCommon, refusedCommon, commonOf}
 use Rattle.header.specs.Plans.{planGrounds, headerGrounds, grantedPlan, refusedPlan, planOf}
 use Rattle.header.specs.Agreed.{Agreed}
 use Rattle.header.specs.Asks.{Asks}
-use Rattle.header.specs.Promises.{agreedCommon, ReadsCommon, askedPlan, GrantsAsked, MarkUnread}
+use Rattle.header.specs.Promises.{agreedCommon, ReadsCommon, askedPlan, GrantsAsked, WordsInPlace, MarkUnread}
 use Rattle.header.proofs.LawsAgreed.{none-agreed, agreed-none}
 use Rattle.header.proofs.LawsPlans.{long-first}
 use Rattle.header.proofs.LawsAsks.{none-asks, asks-none, asked-block, asked-words}
@@ -100,6 +101,10 @@ module _ (h : List ℕ) where
 
 pub grants-asked : GrantsAsked
 grants-asked = record { given = plan-asked; only = plan-only; zeros = plan-refused }
+
+pub words-in-place : WordsInPlace
+unfolding planOf numberOf rowOf permits recordsIn fieldBytes fieldBits
+words-in-place = refl
 
 -- no word that is read is word 9
 pub mark-unread : MarkUnread

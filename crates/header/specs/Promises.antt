@@ -2,8 +2,8 @@
 -- Assumes nothing.
 use Prim.Native.Nat.{ℕ, _-_}
 use mathlib.Core.Path.{_≡_}
-use mathlib.Core.List.{List}
-use lib.ListN.{length, take, set}
+use mathlib.Core.List.{List, _∷_}
+use lib.ListN.{length, take, set, replicate}
 use Rattle.bits.specs.Bits.{Below}
 use Rattle.check_word.specs.Check.{passes}
 use Rattle.row.specs.Rows.{recordsIn}
@@ -36,6 +36,10 @@ pub record GrantsAsked : Type 0 where
   pub given : (h : List ℕ) (b v w C : ℕ) → length h ≡ headerLength → Asks h b v w C → planOf h ≡ askedPlan b v w C
   pub only : (h : List ℕ) → planOf h .number ≡ 0 → (length h ≡ headerLength) × Asks h (blockIn h) (versionIn h) (sizeIn h) (wordsIn h)
   pub zeros : (h : List ℕ) → (planOf h .number ≡ 0 → ⊥) → planOf h ≡ refusedPlan (planOf h .number)
+
+-- words 1 to 4 and 8 are the first four bytes and the eighth: 3, 10, a count of 20 and two more, 2
+abbrev pub WordsInPlace : Type 0
+WordsInPlace = planOf (3 ∷ 10 ∷ 0 ∷ 22 ∷ 0 ∷ 0 ∷ 0 ∷ 2 ∷ replicate 20 0) ≡ askedPlan 3 2 10 20
 
 -- data marked not valid is read like any other: what word 9 holds changes no plan
 abbrev pub MarkUnread : Type 0

@@ -6,7 +6,6 @@ use mathlib.Core.Path.{_≡_}
 use mathlib.Core.List.{List, [], _∷_}
 use Rattle.tag.specs.Promises.{Bounded}
 use Rattle.tag.specs.declared.Tag.{Tag}
-use Rattle.watch.specs.Bounds.{longestWait}
 use Rattle.watch.specs.Offers.{Offer, after}
 use Rattle.watch.specs.Rules.{idle, beginOf, stepOf}
 use Rattle.rahmisve.specs.Times.{tagFrom, numbersOf}
@@ -23,5 +22,5 @@ rowsAfter row (o ∷ os) = rowsAfter (rowAfter (stepOf (watchIn row) (o .block) 
 
 -- A row that was begun, and any row whatever, reads after offers as the watch does.
 pub record RowFollows : Type 0 where
-  pub begun : (limit : ℕ) (row : List ℕ) → limit ≤ longestWait → watchIn (rowBegun (beginOf limit) row) ≡ idle limit
+  pub begun : (limit : ℕ) (row : List ℕ) → limit ≤ 3600000 → watchIn (rowBegun (beginOf limit) row) ≡ idle limit
   pub offered : (row : List ℕ) (os : List Offer) → watchIn (rowsAfter row os) ≡ after (watchIn row) os

@@ -1,5 +1,5 @@
 -- What is promised of the watch: of its beginning, of one offer and what an accepted one does, kept in proofs/KeepsRules.antt; then of any
--- sequence of offers, kept in proofs/KeepsScans.antt.
+-- sequence of offers, kept in proofs/KeepsScans.antt. The numbers stand here as the scope prints them, not by the rules' own names.
 -- Assumes nothing.
 use mathlib.Core.Path.{_≡_}
 use Prim.Native.Nat.{ℕ, suc, _+_, _*_, _≤_, _<_}
@@ -11,7 +11,7 @@ use Rattle.tag.specs.Tags.{tagOf}
 use Rattle.tag.specs.Times.{between, elapsedOf}
 use Rattle.tag.specs.Promises.{IsTag}
 use Rattle.watch.specs.Verdicts.{numberOf, closes, completes}
-use Rattle.watch.specs.Bounds.{longestWait, lastOfScan, lastBlock, refusalOf}
+use Rattle.watch.specs.Bounds.{refusalOf}
 use Rattle.watch.specs.Rules.{idle, expecting, beginOf, stepOf}
 use Rattle.watch.specs.Offers.{Offer, nextOf, verdictOf, after, begins, noneBegins, offerOf, blocksBefore}
 use Rattle.watch.specs.declared.Watch.{Watch}
@@ -20,8 +20,8 @@ use Rattle.watch.specs.declared.Verdict.the-variants.{Stray, Opened, Kep
 
 -- A watch begins idle, with a limit from 0 to 3,600,000 ms; above it 16, with zeros.
 pub record Beginning : Type 0 where
-  pub taken : (limit : ℕ) → limit ≤ longestWait → beginOf limit ≡ record { number = 0; watch = idle limit }
-  pub refused : (limit : ℕ) → longestWait < limit → beginOf limit ≡ record { number = 16; watch = idle 0 }
+  pub taken : (limit : ℕ) → limit ≤ 3600000 → beginOf limit ≡ record { number = 0; watch = idle limit }
+  pub refused : (limit : ℕ) → 3600000 < limit → beginOf limit ≡ record { number = 16; watch = idle 0 }
 
 pub record OneOffer : Type 0 where
   -- The number given is that of the first ground in the list.
@@ -61,11 +61,11 @@ pub record AcceptedOffer : Type 0 where
   pub back : (w : Watch) (b : ℕ) (s : List ℕ) → Open w b s → between (w .last) (tagOf s) <ℤ pos 0 → stepOf w b s .verdict ≡ Closed ClockBack
   pub late : (w : Watch) (b : ℕ) (s : List ℕ) → Open w b s → pos (w .limit) <ℤ between (w .last) (tagOf s) → stepOf w b s .verdict ≡ Closed Late
   pub broken : (w : Watch) (b : ℕ) (s : List ℕ) → InTime w b s → (b ≡ w .expected → ⊥) → stepOf w b s .verdict ≡ Closed Broken
-  pub complete : (w : Watch) (b : ℕ) (s : List ℕ) → InTime w b s → b ≡ w .expected → b ≡ lastOfScan → stepOf w b s .verdict ≡ Closed Complete
-  pub kept : (w : Watch) (b : ℕ) (s : List ℕ) → InTime w b s → b ≡ w .expected → (b ≡ lastOfScan → ⊥)
+  pub complete : (w : Watch) (b : ℕ) (s : List ℕ) → InTime w b s → b ≡ w .expected → b ≡ 10 → stepOf w b s .verdict ≡ Closed Complete
+  pub kept : (w : Watch) (b : ℕ) (s : List ℕ) → InTime w b s → b ≡ w .expected → (b ≡ 10 → ⊥)
       → stepOf w b s ≡ record { next = expecting (w .expected + 1) (tagOf s) (w .limit); verdict = Kept }
   -- Block 11 while open is broken, unless the clock decides first.
-  pub eleven : (w : Watch) (s : List ℕ) → InTime w lastBlock s → stepOf w lastBlock s .verdict ≡ Closed Broken
+  pub eleven : (w : Watch) (s : List ℕ) → InTime w 11 s → stepOf w 11 s .verdict ≡ Closed Broken
 
 -- After the offers os to a watch: the block 0 that began the scan it is in was offered and accepted, with none after it.
 pub record BegunBy (w : Watch) (os : List Offer) : Type 0 where
@@ -79,7 +79,7 @@ pub record BegunBy (w : Watch) (os : List Offer) : Type 0 where
 -- The offer o after the offers os completes a scan, which its block 10 ends, from 0 to ten times the limit after its block 0.
 pub record Scan (limit : ℕ) (os : List Offer) (o : Offer) : Type 0 where
   pub by : BegunBy (idle limit) os
-  pub ten : o .block ≡ lastOfScan
+  pub ten : o .block ≡ 10
   pub number : elapsedOf (by .first .tag) (o .tag) .number ≡ 0
   pub forward : pos 0 ≤ℤ elapsedOf (by .first .tag) (o .tag) .ms
   pub soon : elapsedOf (by .first .tag) (o .tag) .ms ≤ℤ pos (10 * limit)
@@ -88,9 +88,9 @@ pub record AnyOffers : Type 0 where
   -- Over any offers to a watch begun idle, refused ones among them.
   pub completed : (limit : ℕ) (os : List Offer) (o : Offer) → completes (verdictOf (after (idle limit) os) o) ≡ true → Scan limit os o
   -- A scan whose blocks 0 to 10 are offered in order, each from 0 to the limit after the one before it, is completed.
-  pub whole : (limit : ℕ) (tag : ℕ → List ℕ) → limit ≤ longestWait → ((k : ℕ) → k ≤ lastOfScan → IsTag (tag k))
-      → ((k : ℕ) → k < lastOfScan → (pos 0 ≤ℤ elapsedOf (tag k) (tag (suc k)) .ms) × (elapsedOf (tag k) (tag (suc k)) .ms ≤ℤ pos limit))
-      → verdictOf (after (idle limit) (blocksBefore lastOfScan tag)) (offerOf tag lastOfScan) ≡ Closed Complete
+  pub whole : (limit : ℕ) (tag : ℕ → List ℕ) → limit ≤ 3600000 → ((k : ℕ) → k ≤ 10 → IsTag (tag k))
+      → ((k : ℕ) → k < 10 → (pos 0 ≤ℤ elapsedOf (tag k) (tag (suc k)) .ms) × (elapsedOf (tag k) (tag (suc k)) .ms ≤ℤ pos limit))
+      → verdictOf (after (idle limit) (blocksBefore 10 tag)) (offerOf tag 10) ≡ Closed Complete
   -- Nor does such a watch ever refuse a known block with a good tag.
-  pub never-refused : (limit : ℕ) (os : List Offer) (o : Offer) → limit ≤ longestWait → o .block ≤ lastBlock → IsTag (o .tag)
+  pub never-refused : (limit : ℕ) (os : List Offer) (o : Offer) → limit ≤ 3600000 → o .block ≤ 11 → IsTag (o .tag)
       → numberOf (verdictOf (after (idle limit) os) o) ≡ 0
