@@ -18,10 +18,14 @@ use Rattle.block.proofs.KeepsReader.{nine-never as small}
 use Rattle.recording.specs.Fields.{Field, written, joined}
 use Rattle.recording.specs.Found.{frontLength, lengthAt, foundAt}
 use Rattle.recording.specs.Lines.{mostFields, holdsBlock, lineOf, countAfter}
-use Rattle.recording.specs.Promises.{Reads, NineNever, Counts}
+use Rattle.recording.specs.Promises.{Reads, HighFirst, NineNever, Counts}
 use Rattle.recording.proofs.LawsLines.{line-seq, seq-next}
 use Rattle.recording.specs.declared.Line.{Line}
 use Rattle.recording.specs.declared.Found.the-variants.{Whole, Cut}
+
+pub high-first : HighFirst
+unfolding foundAt
+high-first = refl
 
 length-written : (f : Field) → length (written f) ≡ frontLength + length (f .body)
 length-written f = omega arith

@@ -3,8 +3,8 @@
 -- Assumes nothing.
 use Prim.Native.Nat.{ℕ, _+_, _<_, _≤_}
 use mathlib.Core.Path.{_≡_}
-use mathlib.Core.List.{List, _++_}
-use lib.ListN.{length, take, drop}
+use mathlib.Core.List.{List, _∷_, _++_}
+use lib.ListN.{length, take, drop, replicate}
 use Rattle.row.specs.Promises.{mostWords}
 use Rattle.recording.specs.Fields.{Field, written, joined}
 use Rattle.recording.specs.Found.{frontLength, foundAt}
@@ -21,6 +21,10 @@ pub record Reads (before : List Field) : Type 0 where
   pub cut : (f : Field) (k : ℕ) → 0 < k → k < length (written f)
       → foundAt (joined before ++ take k (written f)) (length (joined before)) ≡ Cut
   pub end : foundAt (joined before) (length (joined before)) ≡ End
+
+-- The high byte of a length comes first: 01 02 is 258.
+abbrev pub HighFirst : Type 0
+HighFirst = foundAt (1 ∷ 0x01 ∷ 0x02 ∷ replicate 258 0) 0 ≡ Whole 1 3 258
 
 -- With room for the words of the largest block no field is refused for want of room.
 abbrev pub NineNever : Type 0
