@@ -1,6 +1,7 @@
 // Bits in the order sent, most significant first, and words of `size` bits in a field of bytes: taken out, put in, and the fill behind
 // the last one. The meaning is in specs/Bits.antt and specs/Fields.antt. No size and no length is trusted.
 ghost use mathlib.Core.Path.{_≡_};
+ghost use Prim.Native.Nat.{_+_, _*_};
 ghost use lib.ListN.{length};
 ghost use Rattle.bits.specs.Fields.{takeAnswer, roomTaken, putAnswer, fieldPut, fillOf, allZero};
 
@@ -8,6 +9,13 @@ mod fill;
 mod fitting;
 mod putting;
 mod taking;
+
+// The number of two bytes, the high one first.
+pub fn two_bytes(high: u8, low: u8) -> u16
+    ensures { λ r. ⌜ r ≡ high * 256 + low ⌝ }
+{
+    high as u16 * 256 + low as u16
+}
 
 // Takes the first `count` words out of the field, to the front of the room. The answer is 0, or a refusal that leaves the room as it was.
 pub fn take_words(field: &[u8], size: u8, count: usize, room: &mut [u16]) -> u8

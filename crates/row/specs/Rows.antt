@@ -7,6 +7,13 @@ use Rattle.ground.specs.Choice.{pick}
 use Rattle.row.specs.declared.Row.{Row}
 use Rattle.row.specs.Pixels.{narrowest, widest, visibleOf, recordWords, imageSize}
 
+-- block numbers and versions go from 0 to these
+abbrev pub lastBlock : ℕ
+lastBlock = 11
+
+abbrev pub lastVersion : ℕ
+lastVersion = 3
+
 -- Block 1 has 4 records, block 2 has 3 (Table 3-1), blocks 3 to 10 have 1. The version does not enter so far.
 unfoldable pub recordsIn : (block version : ℕ) → ℕ
 recordsIn block version = pick (eqb block 1) 4 (pick (eqb block 2) 3 (pick (leb 3 block && leb block 10) 1 0))

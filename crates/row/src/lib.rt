@@ -6,6 +6,11 @@ ghost use Rattle.row.specs.Pixels.{visibleOf, recordWords};
 ghost use Rattle.row.specs.Rows.{fixedRow, infraredRow, visibleRow, lastRow, noRow, rowOf, permits};
 ghost use Rattle.row.specs.Field.{fieldBits, fieldBytes};
 
+// Block numbers and versions go from 0 to these.
+pub const LAST_BLOCK: u8 = 11;
+
+pub const LAST_VERSION: u8 = 3;
+
 // Pixels on the two scales of a scan. Numbers of the two kinds are never added to one another.
 pub struct Infrared(pub u16);
 

@@ -9,6 +9,7 @@ same p q = p ∙ sym q
 pub settled : AllSettled
 settled =
     record {
+      two-bytes = λ _ _ x y. (same (x .allowed) (y .allowed), refl);
       take-words = λ _ _ x y. (same (x .allowed .0) (y .allowed .0), λ i. (tt, (tt, (tt, (same (x .allowed .1) (y .allowed .1) i, tt)))));
       put-words = λ _ _ x y. (same (x .allowed .0) (y .allowed .0), λ i. (tt, (tt, (same (x .allowed .1) (y .allowed .1) i, tt))));
       fill-is-zero = λ _ _ x y. (same (x .allowed) (y .allowed), refl);

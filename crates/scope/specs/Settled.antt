@@ -2,6 +2,7 @@
 -- Assumes nothing.
 use mathlib.Core.Path.{_≡_}
 use denote.Ref.{now}
+use Rattle.bits.proofs.two_bytes
 use Rattle.bits.proofs.take_words
 use Rattle.bits.proofs.put_words
 use Rattle.bits.proofs.fill_is_zero
@@ -53,6 +54,7 @@ use Rattle.scope.specs.Outcomes.{Settled, SettledUpTo, offered}
 
 pub record AllSettled : Type 0 where
   -- bits
+  pub two-bytes : Settled two_bytes.ended two_bytes.Reads.Learnt
   pub take-words : Settled take_words.ended take_words.Reads.Learnt
   pub put-words : Settled put_words.ended put_words.Reads.Learnt
   pub fill-is-zero : Settled fill_is_zero.ended fill_is_zero.Reads.Learnt
