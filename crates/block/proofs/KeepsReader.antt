@@ -7,11 +7,11 @@ use mathlib.Core.Logic.{_↔_}
 use mathlib.Core.Bool.{Bool, true, not}
 use native.Mathlib.Omega.{arith}
 use mathlib.Core.List.{List, [], _∷_, _++_}
-use lib.ListN.{length, take, drop, length-drop}
+use lib.ListN.{length, drop, length-drop}
 use borrow.Author.Tests.{ltb-true, ltb-false, le-ltb, eq-eqb}
 use Rattle.ground.specs.Grounds.{_when_}
 use Rattle.ground.proofs.LawsTests.{never}
-use Rattle.ground.proofs.LawsGrounds.{accepts, refuses, reads-number, none-first, first-none, exactly}
+use Rattle.ground.proofs.LawsGrounds.{accepts, refuses, reads-number, none-first, first-none, none-split, exactly}
 use Rattle.bits.specs.Bits.{Below, spell, words, sent}
 use Rattle.bits.specs.Fields.{wordsOf, fillOf}
 use Rattle.bits.proofs.LawsWords.{length-spell, words-spell}
@@ -21,12 +21,13 @@ use Rattle.check_word.proofs.LawsPasses.{passes-true, true-passes}
 use Rattle.row.specs.Field.{fieldBytes}
 use Rattle.row.proofs.LawsField.{bits-whole, fields-even, words-at-most}
 use Rattle.header.specs.Says.{blockIn, wordsIn, bytesIn}
-use Rattle.header.specs.Copies.{copiesLength, copyAt, tooShort, noCopyPasses, headerIn}
+use Rattle.header.specs.Copies.{copiesLength, copyAt, tooShort, noCopyPasses, headerIn, copiesGrounds}
+use Rattle.header.specs.Plans.{headerGrounds}
 use Rattle.header.proofs.LawsAsks.{none-asks}
 use Rattle.header.proofs.LawsAgreed.{copy-bytes, none-passes, passes-none}
 use Rattle.block.specs.declared.Answer.{Answer}
 use Rattle.block.specs.Layout.{informationField}
-use Rattle.block.specs.Grounds.{offBoundary, smallRoom, groundsOf, refusalOf}
+use Rattle.block.specs.Grounds.{wrongLength, offBoundary, smallRoom, groundsOf, refusalOf}
 use Rattle.block.specs.Answers.{refusedAnswer, acceptedAnswer, answerOf, wordsBy, roomAfter}
 use Rattle.block.specs.Meets.{Meets}
 use Rattle.block.specs.Promises.{Accepted, RefusesInOrder, RefusesExactly, RefusalLeaves, TwoExactly, SeventeenNever, NineNever, FillMeasured, AcceptsExactly, AnswersTruly, GivesWords}
@@ -66,7 +67,7 @@ two-exactly block room bytes =
 pub seventeen-never : SeventeenNever
 seventeen-never block room e =
     let h = headerIn block in
-    let odd = refuses-exactly block room (take 8 (groundsOf block h room)) (17 when offBoundary (bytesIn h)) _ refl .0 e .1 in
+    let odd = refuses-exactly block room (copiesGrounds block ++ (headerGrounds h ++ ((8 when wrongLength (bytesIn h) block) ∷ []))) (17 when offBoundary (bytesIn h)) _ refl .0 e .1 in
     let even = fields-even (blockIn h) (wordsIn h) in
     let whole : (copiesLength + bytesIn h) % 2 ≡ 0 = omega arith in
     never (sym (ap not (eq-eqb ((copiesLength + bytesIn h) % 2) 0 whole)) ∙ odd)
@@ -74,9 +75,10 @@ seventeen-never block room e =
 pub nine-never : NineNever
 nine-never block room enough e =
     let h = headerIn block in
-    let small = refuses-exactly block room (take 9 (groundsOf block h room)) (9 when smallRoom (wordsIn h) room) _ refl .0 e in
-    let n = small .0 .1 .1 .1 in
-    let asks = none-asks h (n .0, (n .1 .0, (n .1 .1 .0, (n .1 .1 .1 .0, tt)))) in
+    let placed = (8 when wrongLength (bytesIn h) block) ∷ (17 when offBoundary (bytesIn h)) ∷ [] in
+    let small = refuses-exactly block room (copiesGrounds block ++ (headerGrounds h ++ placed)) (9 when smallRoom (wordsIn h) room) _ refl .0 e in
+    let n = none-split (copiesGrounds block) (headerGrounds h ++ placed) (small .0) in
+    let asks = none-asks h (none-split (headerGrounds h) placed (n .1) .0) in
     let most = words-at-most _ _ _ _ (asks .suits) in
     absurd (omega (arith, ltb-true room (wordsIn h) (small .1)))
 

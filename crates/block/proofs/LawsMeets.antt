@@ -11,7 +11,7 @@ use lib.Seq.{getD-drop}
 use borrow.Author.Tests.{ltb-false, lt-ltb, le-ltb, eqb-true, eq-eqb, not-false}
 use Rattle.ground.specs.Grounds.{Ground, _when_, firstOf, NoneHolds}
 use Rattle.ground.proofs.LawsTests.{both, split}
-use Rattle.ground.proofs.LawsGrounds.{none-append, first-is}
+use Rattle.ground.proofs.LawsGrounds.{none-append, none-split, first-is}
 use Rattle.bits.specs.Bits.{Below, sent}
 use Rattle.bits.specs.Fields.{fillOf, allZero}
 use Rattle.bits.proofs.LawsBelow.{below-drop}
@@ -28,7 +28,7 @@ use Rattle.header.specs.Asks.{Asks}
 use Rattle.header.proofs.LawsAgreed.{none-agreed, agreed-none}
 use Rattle.header.proofs.LawsAsks.{none-asks, asks-none, asked-block, asked-words}
 use Rattle.block.specs.Layout.{blockLength, informationField}
-use Rattle.block.specs.Grounds.{wrongLength, offBoundary, smallRoom, checkDisagrees, fillNotZero, groundsOf}
+use Rattle.block.specs.Grounds.{wrongLength, offBoundary, smallRoom, checkDisagrees, fillNotZero, fieldGrounds, groundsOf}
 use Rattle.block.specs.Meets.{Meets}
 
 -- ---- the fill, bit by bit
@@ -64,16 +64,18 @@ module _ (block : List ℕ) (bytes : Below 256 block) where
 
   pub none-meets : (room : ℕ) → NoneHolds (groundsOf block h room) → (m : Meets block) × (m .words ≤ room)
   none-meets room n =
-      let m = n .1 .1 .1 in
-      let f = m .1 .1 .1 .1 in (
+      let fields = fieldGrounds (sizeIn h) (wordsIn h) (bytesIn h) block room in
+      let k = none-split (copiesGrounds block) (headerGrounds h ++ fields) n in
+      let m = none-split (headerGrounds h) fields (k .1) in
+      let f = m .1 in (
         record {
           copy = commonIn block;
           number = blockIn h;
           version = versionIn h;
           size = sizeIn h;
           words = wordsIn h;
-          agreed = none-agreed block bytes (n .0, (n .1 .0, (n .1 .1 .0, tt)));
-          asks = none-asks h (m .0, (m .1 .0, (m .1 .1 .0, (m .1 .1 .1 .0, tt))));
+          agreed = none-agreed block bytes (k .0);
+          asks = none-asks h (m .0);
           long = eqb-true (length block) (blockLength (bytesIn h)) (not-false _ (f .0));
           checked = passes-true (drop copiesLength block) (below-drop 256 copiesLength block bytes) (not-false _ (f .1 .1 .1 .0));
           filled = fill-each (sizeIn h) (wordsIn h) (informationField (bytesIn h) block) (not-false _ (f .1 .1 .1 .1 .0));

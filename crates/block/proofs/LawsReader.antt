@@ -13,7 +13,7 @@ use borrow.Author.Tests.{ltb-false, le-ltb, le-leb, eqb-true, ne-eqb, not-false}
 use Rattle.ground.specs.Choice.{pick}
 use Rattle.ground.specs.Grounds.{_when_, firstOf}
 use Rattle.ground.proofs.LawsChoice.{either}
-use Rattle.ground.proofs.LawsGrounds.{none-first, first-none, first-then, join, accepts}
+use Rattle.ground.proofs.LawsGrounds.{none-first, first-none, none-split, first-then, join, accepts}
 use Rattle.bits.specs.Fields.{wordsOf, badSize, fit, takeAnswer, roomTaken}
 use Rattle.check_word.specs.Check.{passes}
 use Rattle.row.specs.Promises.{Held}
@@ -105,11 +105,12 @@ module _ (block : List ℕ) where
   pub ready : (room : ℕ) → refusalOf block room ≡ 0 → Ready room
   unfolding refusalOf
   ready room e =
-      let n = first-none (groundsOf block h room) refl e in
-      let cs : firstOf (copiesGrounds block) ≡ 0 = none-first (copiesGrounds block) (n .0, (n .1 .0, (n .1 .1 .0, tt))) in
-      let m = n .1 .1 .1 in
-      let hs : firstOf (headerGrounds h) ≡ 0 = none-first (headerGrounds h) (m .0, (m .1 .0, (m .1 .1 .0, (m .1 .1 .1 .0, tt)))) in
-      let f = m .1 .1 .1 .1 in
+      let fields = fieldGrounds (sizeIn h) (wordsIn h) (bytesIn h) block room in
+      let n = none-split (copiesGrounds block) (headerGrounds h ++ fields) (first-none (groundsOf block h room) refl e) in
+      let m = none-split (headerGrounds h) fields (n .1) in
+      let cs : firstOf (copiesGrounds block) ≡ 0 = none-first (copiesGrounds block) (n .0) in
+      let hs : firstOf (headerGrounds h) ≡ 0 = none-first (headerGrounds h) (m .0) in
+      let f = m .1 in
       record {
         common = common-found block cs;
         plan = granted-is cs hs;

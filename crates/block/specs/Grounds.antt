@@ -2,7 +2,7 @@
 -- Assumes nothing.
 use Prim.Native.Nat.{ℕ, _+_, _%_}
 use mathlib.Core.Bool.{Bool, not}
-use mathlib.Core.List.{List, [], _∷_}
+use mathlib.Core.List.{List, [], _∷_, _++_}
 use lib.Dec.{eqb, ltb}
 use lib.ListN.{length, drop}
 use Rattle.ground.specs.Choice.{pick}
@@ -11,8 +11,8 @@ use Rattle.bits.specs.Fields.{fillOf, allZero}
 use Rattle.check_word.specs.Check.{passes}
 use Rattle.header.specs.declared.Plan.{Plan}
 use Rattle.header.specs.Says.{sizeIn, wordsIn, bytesIn}
-use Rattle.header.specs.Copies.{copiesLength, tooShort, noCopyPasses, copiesDiffer, headerIn}
-use Rattle.header.specs.Plans.{unknownBlock, unknownVersion, wrongSize, wrongCount}
+use Rattle.header.specs.Copies.{copiesLength, headerIn, copiesGrounds}
+use Rattle.header.specs.Plans.{headerGrounds}
 use Rattle.block.specs.Layout.{blockLength, informationField}
 
 -- 8: block bytes not exactly the required number
@@ -53,19 +53,7 @@ firstIn copies plan block room =
 -- of a block with the common header h, lent room for so many words
 abbrev pub groundsOf : (block h : List ℕ) → ℕ → List Ground
 groundsOf block h room =
-    (1 when tooShort block)
-    ∷ (2 when noCopyPasses block)
-    ∷ (3 when copiesDiffer block)
-    ∷ (4 when unknownBlock h)
-    ∷ (5 when unknownVersion h)
-    ∷ (6 when wrongSize h)
-    ∷ (7 when wrongCount h)
-    ∷ (8 when wrongLength (bytesIn h) block)
-    ∷ (17 when offBoundary (bytesIn h))
-    ∷ (9 when smallRoom (wordsIn h) room)
-    ∷ (10 when checkDisagrees block)
-    ∷ (11 when fillNotZero (sizeIn h) (wordsIn h) (informationField (bytesIn h) block))
-    ∷ []
+    copiesGrounds block ++ (headerGrounds h ++ fieldGrounds (sizeIn h) (wordsIn h) (bytesIn h) block room)
 
 -- the number given is that of the first that holds, 0 where none does
 unfoldable pub refusalOf : List ℕ → ℕ → ℕ

@@ -34,6 +34,10 @@ pub none-append : (xs ys : List Ground) → NoneHolds xs → NoneHolds ys → No
 none-append [] ys h k = k
 none-append (g ∷ gs) ys h k = (h .0, none-append gs ys (h .1) k)
 
+pub none-split : (xs ys : List Ground) → NoneHolds (xs ++ ys) → NoneHolds xs × NoneHolds ys
+none-split [] ys h = (tt, h)
+none-split (g ∷ gs) ys h = let s = none-split gs ys (h .1) in ((h .0, s .0), s .1)
+
 pub first-is : (before : List Ground) (g : Ground) (after : List Ground) → NoneHolds before → g .holds ≡ true → firstOf (before ++ (g ∷ after)) ≡ g .number
 first-is [] g after h e = ap (λ (t : Bool). pick t (g .number) (firstOf after)) e
 first-is (b ∷ bs) g after h e = ap (λ (t : Bool). pick t (b .number) (firstOf (bs ++ (g ∷ after)))) (h .0) ∙ first-is bs g after (h .1) e

@@ -10,6 +10,7 @@ use borrow.Author.Tests.{le-ltb, le-leb, leb-true, eqb-true, eq-eqb, ne-eqb}
 use Rattle.ground.specs.Grounds.{NoneHolds}
 use Rattle.ground.proofs.LawsChoice.{yes, no, either}
 use Rattle.ground.proofs.LawsTests.{both, split}
+use Rattle.row.specs.Rows.{lastBlock, lastVersion}
 use Rattle.row.specs.Promises.{Takes}
 use Rattle.row.proofs.LawsRow.{suits-takes, takes-suits}
 use Rattle.header.specs.Says.{numberOf, blockIn, sizeIn, countIn, extraWords, wordsIn, versionIn, rowIn}
@@ -66,9 +67,9 @@ module _ {h : List ℕ} {b v w C : ℕ} (a : Asks h b v w C) where
   asks-none =
       let t = asked-takes in
       let few : extraWords ≤ countIn h = omega (arith, a .count) in (
-        le-ltb 11 (blockIn h) (omega (arith, asked-block, is-known (a .id))),
+        le-ltb lastBlock (blockIn h) (omega (arith, asked-block, is-known (a .id))),
         (
-          le-ltb 3 (versionIn h) (omega (arith, a .version, a .known)),
+          le-ltb lastVersion (versionIn h) (omega (arith, a .version, a .known)),
           (
             ap not (eq-eqb (rowIn h .size) (sizeIn h) (t .sized)),
             (ap₂ _||_ (le-ltb (countIn h) extraWords few) (ap not (t .counted)), tt),

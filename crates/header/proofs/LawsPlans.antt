@@ -10,13 +10,13 @@ use borrow.Author.Tests.{lt-ltb, le-ltb, ltb-false, eqb-true, eq-eqb, ne-eqb, no
 use Rattle.ground.specs.Grounds.{firstOf, NoneHolds}
 use Rattle.ground.proofs.LawsChoice.{yes, no}
 use Rattle.ground.proofs.LawsTests.{neither}
-use Rattle.row.specs.Rows.{permits}
+use Rattle.row.specs.Rows.{lastBlock, lastVersion, permits}
 use Rattle.header.specs.Says.{headerLength, blockIn, sizeIn, countIn, extraWords, wordsIn, versionIn, rowIn}
 use Rattle.header.specs.Plans.{wrongCount, headerGrounds, planGrounds}
 
 pub record Clear (h : List ℕ) : Type 0 where
-  pub block : blockIn h ≤ 11
-  pub version : versionIn h ≤ 3
+  pub block : blockIn h ≤ lastBlock
+  pub version : versionIn h ≤ lastVersion
   pub size : rowIn h .size ≡ sizeIn h
   pub enough : extraWords ≤ countIn h
   pub counted : permits (rowIn h) (wordsIn h) ≡ true
@@ -25,8 +25,8 @@ pub clear : (h : List ℕ) → NoneHolds (headerGrounds h) → Clear h
 clear h n =
     let m = neither (ltb (countIn h) extraWords) _ (n .1 .1 .1 .0) in
     record {
-      block = ltb-false 11 (blockIn h) (n .0);
-      version = ltb-false 3 (versionIn h) (n .1 .0);
+      block = ltb-false lastBlock (blockIn h) (n .0);
+      version = ltb-false lastVersion (versionIn h) (n .1 .0);
       size = eqb-true (rowIn h .size) (sizeIn h) (not-false _ (n .1 .1 .0));
       enough = ltb-false (countIn h) extraWords (m .0);
       counted = not-false _ (m .1);

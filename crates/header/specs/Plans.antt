@@ -7,17 +7,17 @@ use lib.Dec.{eqb, ltb}
 use lib.ListN.{length}
 use Rattle.ground.specs.Choice.{pick}
 use Rattle.ground.specs.Grounds.{Ground, _when_, firstOf}
-use Rattle.row.specs.Rows.{permits}
+use Rattle.row.specs.Rows.{lastBlock, lastVersion, permits}
 use Rattle.header.specs.declared.Plan.{Plan}
 use Rattle.header.specs.Says.{headerLength, blockIn, sizeIn, countIn, extraWords, wordsIn, versionIn, rowIn, bytesIn}
 
 -- 4: unknown block id, or block number above 11
 abbrev pub unknownBlock : List ℕ → Bool
-unknownBlock header = ltb 11 (blockIn header)
+unknownBlock header = ltb lastBlock (blockIn header)
 
 -- 5: version above 3
 abbrev pub unknownVersion : List ℕ → Bool
-unknownVersion header = ltb 3 (versionIn header)
+unknownVersion header = ltb lastVersion (versionIn header)
 
 -- 6: word size not in the block's row
 abbrev pub wrongSize : List ℕ → Bool

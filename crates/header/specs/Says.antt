@@ -7,7 +7,7 @@ use lib.Dec.{eqb, leb}
 use lib.ListN.{getD, take, drop}
 use Rattle.ground.specs.Choice.{pick}
 use Rattle.row.specs.declared.Row.{Row}
-use Rattle.row.specs.Rows.{rowOf}
+use Rattle.row.specs.Rows.{lastBlock, rowOf}
 use Rattle.row.specs.Field.{fieldBytes}
 
 -- a header as it is given back and lent: its first 28 bytes, without the check word
@@ -20,7 +20,7 @@ word k header = getD header (k - 1) 0
 
 -- word 1, the block id: 240 is block 0, 1 to 11 are themselves; 255 stands for no block
 unfoldable pub numberOf : ℕ → ℕ
-numberOf id = pick (eqb id 240) 0 (pick (leb 1 id && leb id 11) id 255)
+numberOf id = pick (eqb id 240) 0 (pick (leb 1 id && leb id lastBlock) id 255)
 
 abbrev pub blockIn : List ℕ → ℕ
 blockIn header = numberOf (word 1 header)

@@ -14,6 +14,9 @@ pub const COPY_BYTES: usize = 30;
 
 pub const COPIES_BYTES: usize = 90;
 
+// The words that a header's count has beyond the field's: they hold the block's check word.
+pub const EXTRA_WORDS: u16 = 2;
+
 // What the three copies have in common, with number 0: the header's 28 bytes, and which copies passed; or a refusal's number and zeros.
 pub struct Common {
     pub number: u8,

@@ -4,28 +4,22 @@ ghost use lib.ListN.{length};
 ghost use Rattle.ground.specs.Grounds.{firstOf};
 ghost use Rattle.header.specs.Says.{headerLength};
 ghost use Rattle.header.specs.Plans.{unknownBlock, unknownVersion, wrongSize, wrongCount, headerGrounds, refusedPlan, grantedPlan};
+use crate::EXTRA_WORDS;
 use crate::Plan;
 use crate::says;
-
-const LAST_BLOCK: u8 = 11;
-
-const LAST_VERSION: u8 = 3;
-
-// The words that a count has beyond the field's: they hold the block's check word.
-const EXTRA_WORDS: u32 = 2;
 
 fn unknown_block(header: &[u8]) -> bool
     requires { ⌜ length (now header) ≡ headerLength ⌝ }
     ensures { λ r. ⌜ r ≡ unknownBlock (now (header .entry)) ⌝ }
 {
-    LAST_BLOCK < says::block_in(header)
+    row::LAST_BLOCK < says::block_in(header)
 }
 
 fn unknown_version(header: &[u8]) -> bool
     requires { ⌜ length (now header) ≡ headerLength ⌝ }
     ensures { λ r. ⌜ r ≡ unknownVersion (now (header .entry)) ⌝ }
 {
-    LAST_VERSION < header[says::VERSION]
+    row::LAST_VERSION < header[says::VERSION]
 }
 
 fn wrong_size(header: &[u8]) -> bool
@@ -44,7 +38,7 @@ fn wrong_count(header: &[u8]) -> bool
     if count < EXTRA_WORDS {
         return true;
     }
-    !row::permits(says::row_in(header), count - EXTRA_WORDS)
+    !row::permits(says::row_in(header), (count - EXTRA_WORDS) as u32)
 }
 
 // The first ground that refuses a header.
@@ -88,7 +82,7 @@ pub(crate) fn granted(header: &[u8]) -> Plan
 {
     let block = says::block_in(header);
     let row = says::row_in(header);
-    let words = says::count_in(header) - EXTRA_WORDS;
+    let words = (says::count_in(header) - EXTRA_WORDS) as u32;
     Plan {
         number: ground::ACCEPTED,
         block: block,

@@ -1,6 +1,5 @@
 // What the words of a header say (504-02, Table 3-5).
 ghost use mathlib.Core.Path.{_≡_};
-ghost use Prim.Native.Nat.{_<_};
 ghost use lib.ListN.{length};
 ghost use Rattle.header.specs.Says.{headerLength, numberOf, blockIn, countIn, rowIn};
 use row::Row;
@@ -20,7 +19,7 @@ fn number_of(id: u8) -> u8
 {
     match id {
         240 => 0,
-        1..=11 => id,
+        1..=row::LAST_BLOCK => id,
         _ => 255,
     }
 }
@@ -32,18 +31,12 @@ pub(crate) fn block_in(header: &[u8]) -> u8
     number_of(header[ID])
 }
 
-fn wide(byte: u8) -> u32
-    ensures { λ r. ⌜ (r ≡ byte) × (r < 256) ⌝ }
-{
-    byte as u32
-}
-
 // As it stands there: of the field's words and two more.
-pub(crate) fn count_in(header: &[u8]) -> u32
+pub(crate) fn count_in(header: &[u8]) -> u16
     requires { ⌜ length (now header) ≡ headerLength ⌝ }
     ensures { λ r. ⌜ r ≡ countIn (now (header .entry)) ⌝ }
 {
-    wide(header[COUNT]) * 256 + wide(header[COUNT + 1])
+    bits::two_bytes(header[COUNT], header[COUNT + 1])
 }
 
 pub(crate) fn row_in(header: &[u8]) -> Row

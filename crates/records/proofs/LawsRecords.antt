@@ -10,7 +10,7 @@ use borrow.Author.Tests.{lt-ltb, le-ltb, eqb-true, eqb-false, ltb-false}
 use lib.Dec.{eqb, ltb}
 use Rattle.ground.proofs.LawsChoice.{yes, no, either}
 use Rattle.ground.proofs.LawsTests.{neither}
-use Rattle.ground.proofs.LawsGrounds.{none-first, first-none, accepts, refuses}
+use Rattle.ground.proofs.LawsGrounds.{none-first, first-none, none-split, accepts, refuses}
 use Rattle.row.specs.Rows.{recordsIn}
 use Rattle.row.specs.Suits.{Suits, zeroth, first, second, others, last6, last8, last10}
 use Rattle.row.specs.declared.Row.{Row}
@@ -124,13 +124,13 @@ module _ (h : List ℕ) (k words : ℕ) {p : Plan} (e : p ≡ planOf h) where
 pub accepted : (h : List ℕ) (k words : ℕ) → refusalOf h k words ≡ 0 → (planOf h .number ≡ 0) × (1 ≤ k) × (k ≤ recordsOf h) × (wordsIn h ≤ words)
 unfolding refusalOf
 accepted h k words e =
-    let n = first-none (groundsOf h k words) refl e in
-    let s = neither (eqb k 0) (ltb (recordsOf h) k) (n .1 .1 .1 .1 .1 .0) in
+    let n = none-split (planGrounds h) (recordGrounds h k words) (first-none (groundsOf h k words) refl e) in
+    let s = neither (eqb k 0) (ltb (recordsOf h) k) (n .1 .0) in
     let low : 1 ≤ k = omega (arith, eqb-false k 0 (s .0)) in (
-      plan-number h ∙ none-first (planGrounds h) (n .0, (n .1 .0, (n .1 .1 .0, (n .1 .1 .1 .0, (n .1 .1 .1 .1 .0, tt))))),
+      plan-number h ∙ none-first (planGrounds h) (n .0),
       low,
       ltb-false (recordsOf h) k (s .1),
-      ltb-false words (wordsIn h) (n .1 .1 .1 .1 .1 .1 .0),
+      ltb-false words (wordsIn h) (n .1 .1 .0),
     )
 
 -- the part that is found ends inside the words

@@ -8,7 +8,7 @@ use lib.ListN.{length, take, drop}
 use Rattle.ground.specs.Choice.{pick}
 use Rattle.ground.specs.Grounds.{Ground, _when_, firstOf}
 use Rattle.header.specs.Says.{wordsIn, rowIn}
-use Rattle.header.specs.Plans.{notHeader, unknownBlock, unknownVersion, wrongSize, wrongCount}
+use Rattle.header.specs.Plans.{planGrounds}
 use Rattle.records.specs.declared.Part.{Part}
 
 -- the records of the block that a header asks for; blocks 0 and 11 have none
@@ -32,13 +32,7 @@ recordGrounds header k words = (13 when noRecord header k) ∷ (9 when ltb words
 
 -- record access applies 1 and 4 to 7 to the header given, then 13, then 9 if fewer than C words are lent
 abbrev pub groundsOf : (header : List ℕ) (k words : ℕ) → List Ground
-groundsOf header k words =
-    (1 when notHeader header)
-    ∷ (4 when unknownBlock header)
-    ∷ (5 when unknownVersion header)
-    ∷ (6 when wrongSize header)
-    ∷ (7 when wrongCount header)
-    ∷ recordGrounds header k words
+groundsOf header k words = planGrounds header ++ recordGrounds header k words
 
 unfoldable pub refusalOf : (header : List ℕ) (k words : ℕ) → ℕ
 refusalOf header k words = firstOf (groundsOf header k words)

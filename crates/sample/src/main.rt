@@ -1,6 +1,7 @@
 // Makes a recording on standard output, through the proved writer: a whole scan of version 2, blocks 11 of every version and size, and
 // some damaged fields, so that a newcomer has something to list.
 ghost use Prim.Native.Nat.{_<_};
+use header::EXTRA_WORDS;
 use libc::STDOUT_FILENO;
 
 // The infrared pixels of the scan, and the bytes of its longest block.
@@ -9,9 +10,6 @@ const PIXELS: u16 = 100;
 const BLOCK_BYTES: usize = 8132;
 
 const MOST_WORDS: usize = 10720;
-
-// The words that a header's count has beyond the field's.
-const EXTRA_WORDS: u16 = 2;
 
 // A header: block id, word size, word count, version, and data marked valid.
 fn header_of(id: u8, size: u8, words: u16, version: u8) -> [u8; 28]

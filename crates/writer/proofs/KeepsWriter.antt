@@ -8,7 +8,7 @@ use mathlib.Core.List.{List, _++_}
 use native.Mathlib.Omega.{arith}
 use lib.ListN.{length, drop}
 use borrow.Author.Tests.{ltb-false, le-ltb, eqb-true, eq-eqb, not-false}
-use Rattle.ground.proofs.LawsGrounds.{reads-number, none-first, first-none, none-append, exactly}
+use Rattle.ground.proofs.LawsGrounds.{reads-number, none-first, first-none, none-append, none-split, exactly}
 use Rattle.bits.specs.Bits.{Below}
 use Rattle.bits.specs.Fields.{allFit}
 use Rattle.bits.proofs.LawsFill.{fit-below, below-fit}
@@ -50,15 +50,16 @@ refusal-leaves =
 module _ (h ws : List ℕ) where
   writable-asks : (room : ℕ) → Writable h ws room → (a : AsksFor h ws) × (blockLength (fieldBytes (a .number) (length ws)) ≤ room)
   writable-asks room e =
-      let n = first-none (writeGrounds h ws room) refl (sym (refuses-in-order h ws room) ∙ e) in
-      let f = n .1 .1 .1 .1 .1 in
+      let s = none-split (planGrounds h) (wordGrounds h ws room) (first-none (writeGrounds h ws room) refl (sym (refuses-in-order h ws room) ∙ e)) in
+      let n = s .0 in
+      let f = s .1 in
       let many : wordsIn h ≡ length ws = sym (eqb-true (length ws) (wordsIn h) (not-false _ (f .0))) in (
         record {
           number = blockIn h;
           version = versionIn h;
           size = sizeIn h;
           long = eqb-true (length h) headerLength (not-false _ (n .0));
-          asks = subst (Asks h (blockIn h) (versionIn h) (sizeIn h)) many (none-asks h (n .1 .0, (n .1 .1 .0, (n .1 .1 .1 .0, (n .1 .1 .1 .1 .0, tt)))));
+          asks = subst (Asks h (blockIn h) (versionIn h) (sizeIn h)) many (none-asks h (n .1));
           sized = fit-below (sizeIn h) ws (not-false _ (f .1 .1 .0));
         },
         subst (λ (C : ℕ). blockLength (fieldBytes (blockIn h) C) ≤ room) many (ltb-false room (blockBytes h) (f .1 .0)),

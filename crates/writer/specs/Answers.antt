@@ -9,7 +9,7 @@ use Rattle.ground.specs.Choice.{pick}
 use Rattle.ground.specs.Grounds.{Ground, _when_, firstOf}
 use Rattle.bits.specs.Fields.{allFit}
 use Rattle.header.specs.Says.{sizeIn, wordsIn, bytesIn}
-use Rattle.header.specs.Plans.{notHeader, unknownBlock, unknownVersion, wrongSize, wrongCount}
+use Rattle.header.specs.Plans.{planGrounds}
 use Rattle.block.specs.Layout.{blockLength}
 use Rattle.writer.specs.declared.Written.{Written}
 use Rattle.writer.specs.Blocks.{blockOf}
@@ -32,13 +32,7 @@ wordGrounds header words room =
 
 -- the writer takes 28 header bytes and words and tests 1, 4 to 8, 9, 14
 abbrev pub writeGrounds : (header words : List ℕ) → ℕ → List Ground
-writeGrounds header words room =
-    (1 when notHeader header)
-    ∷ (4 when unknownBlock header)
-    ∷ (5 when unknownVersion header)
-    ∷ (6 when wrongSize header)
-    ∷ (7 when wrongCount header)
-    ∷ wordGrounds header words room
+writeGrounds header words room = planGrounds header ++ wordGrounds header words room
 
 unfoldable pub writeRefusal : (header words : List ℕ) → ℕ → ℕ
 writeRefusal header words room = firstOf (writeGrounds header words room)

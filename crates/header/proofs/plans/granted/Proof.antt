@@ -23,14 +23,17 @@ sub-words c =
     let s = c .before .before .before .before in
     omega (arith, clear (s .args .header .now) (first-none (headerGrounds (s .args .header .now)) refl (s .pre .1)) .enough, c .count-in .ensures)
 
-shared-slice-read-t7 : tie.Need-shared-slice-read-t7
-shared-slice-read-t7 c = search needs
+cast-words : tie.Need-cast-words
+cast-words c = search needs
 
-shared-slice-read-t9 : tie.Need-shared-slice-read-t9
-shared-slice-read-t9 c = search needs
+shared-slice-read-t8 : tie.Need-shared-slice-read-t8
+shared-slice-read-t8 c = search needs
 
-cast-t10 : tie.Need-cast-t10
-cast-t10 c = search needs
+shared-slice-read-t10 : tie.Need-shared-slice-read-t10
+shared-slice-read-t10 c = search needs
+
+cast-t11 : tie.Need-cast-t11
+cast-t11 c = search needs
 
 field-bytes-requires : tie.Need-field-bytes-requires
 field-bytes-requires c κs = search needs
@@ -46,8 +49,9 @@ granted-spec =
     row-in-requires
     count-in-requires
     sub-words
-    shared-slice-read-t7
-    shared-slice-read-t9
-    cast-t10
+    cast-words
+    shared-slice-read-t8
+    shared-slice-read-t10
+    cast-t11
     field-bytes-requires
     returns)

@@ -22,6 +22,9 @@ returns c =
 row-in-requires : tie.Need-row-in-requires
 row-in-requires c κs = search needs
 
+cast-permits : tie.Need-cast-permits
+cast-permits c = search needs
+
 permits-requires : tie.Need-permits-requires
 permits-requires c κs = search needs
 
@@ -34,4 +37,4 @@ returns-2 c =
 
 pub wrong-count-spec : {M : Type 1} → statement M
 wrong-count-spec =
-    tie.close (tie.spec count-in-requires returns row-in-requires permits-requires returns-2)
+    tie.close (tie.spec count-in-requires returns row-in-requires cast-permits permits-requires returns-2)
