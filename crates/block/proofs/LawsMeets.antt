@@ -28,7 +28,7 @@ use Rattle.header.specs.Asks.{Asks}
 use Rattle.header.proofs.LawsAgreed.{none-agreed, agreed-none}
 use Rattle.header.proofs.LawsAsks.{none-asks, asks-none, asked-block, asked-words}
 use Rattle.block.specs.Layout.{blockLength, informationField}
-use Rattle.block.specs.Grounds.{wrongLength, offBoundary, smallRoom, checkDisagrees, fillNotZero, fieldGrounds, groundsOf}
+use Rattle.block.specs.Grounds.{wrongLength, offBoundary, smallRoom, checkDisagrees, fillNotZero, fieldBy, groundsOf}
 use Rattle.block.specs.Meets.{Meets}
 
 -- ---- the fill, bit by bit
@@ -64,9 +64,8 @@ module _ (block : List ℕ) (bytes : Below 256 block) where
 
   pub none-meets : (room : ℕ) → NoneHolds (groundsOf block h room) → (m : Meets block) × (m .words ≤ room)
   none-meets room n =
-      let fields = fieldGrounds (sizeIn h) (wordsIn h) (bytesIn h) block room in
-      let k = none-split (copiesGrounds block) (headerGrounds h ++ fields) n in
-      let m = none-split (headerGrounds h) fields (k .1) in
+      let k = none-split (copiesGrounds block) (headerGrounds h ++ fieldBy h block room) n in
+      let m = none-split (headerGrounds h) (fieldBy h block room) (k .1) in
       let f = m .1 in (
         record {
           copy = commonIn block;

@@ -11,8 +11,34 @@ use Rattle.header.specs.declared.Common.{Common}
 use Rattle.header.specs.Says.{headerLength, sizeIn, wordsIn, bytesIn}
 use Rattle.header.specs.Copies.{copyAt, headerIn, foundCommon}
 use Rattle.block.specs.declared.Answer.{Answer}
+use Rattle.block.specs.declared.Judged.{Judged}
 use Rattle.block.specs.Layout.{informationField}
-use Rattle.block.specs.Grounds.{refusalOf}
+use Rattle.block.specs.Grounds.{refusalBy, refusalOf}
+
+-- ---- by a given header
+
+-- the count in a refusal is zero
+abbrev pub refusedJudged : ℕ → Judged
+refusedJudged n = record { number = n; words = 0 }
+
+abbrev pub acceptedJudged : List ℕ → Judged
+acceptedJudged h = record { number = 0; words = wordsIn h }
+
+unfoldable pub judgedBy : (h block : List ℕ) → ℕ → Judged
+judgedBy h block room = pick (eqb (refusalBy h block room) 0) (acceptedJudged h) (refusedJudged (refusalBy h block room))
+
+-- the words of the field that the header h asks for
+abbrev pub wordsBy : (h block : List ℕ) → List ℕ
+wordsBy h block = wordsOf (sizeIn h) (wordsIn h) (informationField (bytesIn h) block)
+
+-- acceptance writes the C words at the front of the room and nothing behind them; a refusal leaves it unchanged
+abbrev pub wordsLaid : (h block room : List ℕ) → List ℕ
+wordsLaid h block room = wordsBy h block ++ drop (wordsIn h) room
+
+unfoldable pub roomBy : (h block room : List ℕ) → List ℕ
+roomBy h block room = pick (eqb (refusalBy h block (length room)) 0) (wordsLaid h block room) room
+
+-- ---- by the common header
 
 -- every count, mark and header byte in a refusal is zero
 abbrev pub refusedAnswer : ℕ → Answer
@@ -29,10 +55,5 @@ acceptedAnswer block = answerWith (foundCommon (copyAt 0 block) (copyAt 1 block)
 unfoldable pub answerOf : List ℕ → ℕ → Answer
 answerOf block room = pick (eqb (refusalOf block room) 0) (acceptedAnswer block) (refusedAnswer (refusalOf block room))
 
--- the words of the field that the header h asks for
-abbrev pub wordsBy : (h block : List ℕ) → List ℕ
-wordsBy h block = wordsOf (sizeIn h) (wordsIn h) (informationField (bytesIn h) block)
-
--- acceptance writes the C words at the front of the room and nothing behind them; a refusal leaves it unchanged
 unfoldable pub roomAfter : (block room : List ℕ) → List ℕ
-roomAfter block room = pick (eqb (refusalOf block (length room)) 0) (wordsBy (headerIn block) block ++ drop (wordsIn (headerIn block)) room) room
+roomAfter block room = pick (eqb (refusalOf block (length room)) 0) (wordsLaid (headerIn block) block room) room

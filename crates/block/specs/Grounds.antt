@@ -5,14 +5,12 @@ use mathlib.Core.Bool.{Bool, not}
 use mathlib.Core.List.{List, [], _∷_, _++_}
 use lib.Dec.{eqb, ltb}
 use lib.ListN.{length, drop}
-use Rattle.ground.specs.Choice.{pick}
 use Rattle.ground.specs.Grounds.{Ground, _when_, firstOf}
 use Rattle.bits.specs.Fields.{fillOf, allZero}
 use Rattle.check_word.specs.Check.{passes}
-use Rattle.header.specs.declared.Plan.{Plan}
 use Rattle.header.specs.Says.{sizeIn, wordsIn, bytesIn}
 use Rattle.header.specs.Copies.{copiesLength, headerIn, copiesGrounds}
-use Rattle.header.specs.Plans.{headerGrounds}
+use Rattle.header.specs.Plans.{headerGrounds, planGrounds}
 use Rattle.block.specs.Layout.{blockLength, informationField}
 
 -- 8: block bytes not exactly the required number
@@ -45,15 +43,20 @@ fieldGrounds size words bytes lent room =
     ∷ (11 when fillNotZero size words (informationField bytes lent))
     ∷ []
 
--- what the reader makes its number of: the copies' come before the plan's, and the plan's before the field's
-abbrev pub firstIn : ℕ → Plan → List ℕ → ℕ → ℕ
-firstIn copies plan block room =
-    pick (eqb copies 0) (pick (eqb (plan .number) 0) (firstOf (fieldGrounds (plan .size) (plan .words) (plan .bytes) block room)) (plan .number)) copies
+-- of the field that a header asks for, in a lent block
+abbrev pub fieldBy : (h block : List ℕ) → ℕ → List Ground
+fieldBy h block room = fieldGrounds (sizeIn h) (wordsIn h) (bytesIn h) block room
+
+-- of a block that is read by the header h, whatever its copies say: one not of 28 bytes is 1
+abbrev pub groundsBy : (h block : List ℕ) → ℕ → List Ground
+groundsBy h block room = planGrounds h ++ fieldBy h block room
+
+unfoldable pub refusalBy : (h block : List ℕ) → ℕ → ℕ
+refusalBy h block room = firstOf (groundsBy h block room)
 
 -- of a block with the common header h, lent room for so many words
 abbrev pub groundsOf : (block h : List ℕ) → ℕ → List Ground
-groundsOf block h room =
-    copiesGrounds block ++ (headerGrounds h ++ fieldGrounds (sizeIn h) (wordsIn h) (bytesIn h) block room)
+groundsOf block h room = copiesGrounds block ++ (headerGrounds h ++ fieldBy h block room)
 
 -- the number given is that of the first that holds, 0 where none does
 unfoldable pub refusalOf : List ℕ → ℕ → ℕ

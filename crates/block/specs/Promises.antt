@@ -16,10 +16,10 @@ use Rattle.row.specs.Field.{fieldBytes, fillBits}
 use Rattle.row.specs.Promises.{mostWords}
 use Rattle.header.specs.Says.{headerLength}
 use Rattle.header.specs.Copies.{copyLength, copyAt, headerIn}
-use Rattle.header.specs.Agreed.{NoneAgreed}
+use Rattle.header.specs.Agreed.{Agreed, NoneAgreed}
 use Rattle.block.specs.Layout.{informationField}
-use Rattle.block.specs.Grounds.{groundsOf}
-use Rattle.block.specs.Answers.{refusedAnswer, answerOf, roomAfter}
+use Rattle.block.specs.Grounds.{groundsBy, groundsOf}
+use Rattle.block.specs.Answers.{refusedJudged, judgedBy, roomBy, refusedAnswer, answerOf, roomAfter}
 use Rattle.block.specs.Meets.{Meets}
 
 abbrev pub Accepted : List ℕ → ℕ → Type 0
@@ -57,6 +57,23 @@ NineNever = (block : List ℕ) (lent : ℕ) → mostWords ≤ lent → answerOf 
 -- The fill that is tested has as many bits as the field has beside its words.
 abbrev pub FillMeasured : Type 0
 FillMeasured = (number size count : ℕ) (field : List ℕ) → length field ≡ fieldBytes number count → length (fillOf size count field) ≡ fillBits number size count
+
+-- ---- reading by a lent header
+
+-- It refuses in the order of its list, each refusal is given exactly on its ground, and a refusal is its number and zero, and leaves every
+-- lent word unchanged.
+pub record JudgesInOrder : Type 0 where
+  pub first : (h block : List ℕ) (lent : ℕ) → judgedBy h block lent .number ≡ firstOf (groundsBy h block lent)
+  pub exactly : (h block : List ℕ) (lent : ℕ) (before : List Ground) (g : Ground) (after : List Ground) → groundsBy h block lent ≡ before ++ (g ∷ after)
+      → (judgedBy h block lent .number ≡ g .number) ↔ (NoneHolds before × (g .holds ≡ true))
+  pub zeros : (h block : List ℕ) (lent : ℕ) → (judgedBy h block lent .number ≡ 0 → ⊥) → judgedBy h block lent ≡ refusedJudged (judgedBy h block lent .number)
+  pub unchanged : (h block room : List ℕ) → (judgedBy h block (length room) .number ≡ 0 → ⊥) → roomBy h block room ≡ room
+
+-- A block whose copies agree on one is read by the first 28 bytes of that one.
+pub record ReadsByCommon : Type 0 where
+  pub number : (block c : List ℕ) (lent : ℕ) → Below 256 block → Agreed block c → answerOf block lent .number ≡ judgedBy (take headerLength c) block lent .number
+  pub count : (block c : List ℕ) (lent : ℕ) → Below 256 block → Agreed block c → answerOf block lent .words ≡ judgedBy (take headerLength c) block lent .words
+  pub left : (block c room : List ℕ) → Below 256 block → Agreed block c → roomAfter block room ≡ roomBy (take headerLength c) block room
 
 -- ---- demand 2
 

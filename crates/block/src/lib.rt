@@ -1,13 +1,9 @@
 // Reading a block: its header copies, its information field and its check word. No block is trusted, and no field is copied. What is
 // promised of it stands in specs/Promises.antt.
 ghost use mathlib.Core.Path.{_≡_};
-ghost use Prim.Native.Nat.{_≤_};
 ghost use lib.ListN.{length};
-ghost use Rattle.row.specs.Promises.{longestField};
-ghost use Rattle.block.specs.Grounds.{firstIn};
-ghost use Rattle.block.specs.Answers.{refusedAnswer, answerWith, answerOf, roomAfter};
+ghost use Rattle.block.specs.Answers.{judgedBy, roomBy, refusedAnswer, answerWith, answerOf, roomAfter};
 use header::Common;
-use header::Plan;
 
 mod field;
 
@@ -18,6 +14,12 @@ pub struct Answer {
     pub first: bool,
     pub second: bool,
     pub third: bool,
+    pub words: usize,
+}
+
+// What reading by a header gives: 0 and the count of words, or a refusal's number and 0.
+pub struct Judged {
+    pub number: u8,
     pub words: usize,
 }
 
@@ -49,32 +51,45 @@ fn accepted(common: Common, words: usize) -> Answer
     }
 }
 
-// The first ground that holds: of the copies, of the header, of the field.
-fn refusal(copies: u8, plan: Plan, block: &[u8], room: usize) -> u8
-    requires { ⌜ plan .bytes ≤ longestField ⌝ }
-    ensures { λ r. ⌜ r ≡ firstIn copies plan (now (block .entry)) room ⌝ }
+// Reads what lies behind the header copies of a block by the header lent, whatever the copies say. The words go to the front of the room.
+pub fn read_by(header: &[u8], block: &[u8], room: &mut [u16]) -> Judged
+    ensures { λ r. ⌜ r ≡ judgedBy (now (header .entry)) (now (block .entry)) (length (now (room .entry))) ⌝ }
+    ensures { λ r. ⌜ now (room .exit) ≡ roomBy (now (header .entry)) (now (block .entry)) (now (room .entry)) ⌝ }
 {
-    if copies != ground::ACCEPTED {
-        return copies;
-    }
+    let plan = header::plan_of(header);
     if plan.number != ground::ACCEPTED {
-        return plan.number;
+        return Judged {
+            number: plan.number,
+            words: 0,
+        };
     }
-    field::refusal(plan, block, room)
+    let number = field::refusal(plan, block, room.len());
+    if number != ground::ACCEPTED {
+        return Judged {
+            number: number,
+            words: 0,
+        };
+    }
+    field::take(plan, block, room);
+    Judged {
+        number: ground::ACCEPTED,
+        words: plan.words,
+    }
 }
 
-// Reads a block. The words go to the front of the room.
+// Reads a block: by the header that its copies have in common. The words go to the front of the room.
 pub fn read(block: &[u8], room: &mut [u16]) -> Answer
     ensures { λ r. ⌜ r ≡ answerOf (now (block .entry)) (length (now (room .entry))) ⌝ }
     ensures { λ r. ⌜ now (room .exit) ≡ roomAfter (now (block .entry)) (now (room .entry)) ⌝ }
 {
     let common = header::common_copy(block);
-    let bytes = common.header;
-    let plan = header::plan_of(&bytes);
-    let number = refusal(common.number, plan, block, room.len());
-    if number != ground::ACCEPTED {
-        return refused(number);
+    if common.number != ground::ACCEPTED {
+        return refused(common.number);
     }
-    field::take(plan, block, room);
-    accepted(common, plan.words)
+    let bytes = common.header;
+    let judged = read_by(&bytes, block, room);
+    if judged.number != ground::ACCEPTED {
+        return refused(judged.number);
+    }
+    accepted(common, judged.words)
 }

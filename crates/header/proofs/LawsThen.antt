@@ -1,9 +1,9 @@
 -- What follows a header's plan: where it is refused its number decides before any other ground, and where it is granted the other
--- grounds do; and the words that a granted plan asks for fit its field.
+-- grounds do; and the words that a granted plan asks for fit its field, which is no longer than the longest.
 -- Assumes nothing.
-use mathlib.Core.Path.{_≡_, refl, sym, ap, _∙_}
+use mathlib.Core.Path.{_≡_, refl, sym, ap, _∙_, subst}
 use mathlib.Core.List.{List, _++_}
-use Prim.Native.Nat.{ℕ}
+use Prim.Native.Nat.{ℕ, _≤_}
 use borrow.Author.Tests.{ne-eqb}
 use lib.Dec.{eqb}
 use lib.ListN.{length}
@@ -11,15 +11,19 @@ use Rattle.ground.specs.Choice.{pick}
 use Rattle.ground.specs.Grounds.{Ground, firstOf}
 use Rattle.ground.proofs.LawsChoice.{no}
 use Rattle.ground.proofs.LawsGrounds.{first-then}
-use Rattle.row.specs.Promises.{Held}
+use Rattle.row.specs.Promises.{longestField, Held}
 use Rattle.header.specs.Says.{headerLength, sizeIn, wordsIn, bytesIn}
 use Rattle.header.specs.Plans.{planGrounds, planOf, grantedPlan}
 use Rattle.header.specs.declared.Plan.{Plan}
-use Rattle.header.proofs.KeepsHeader.{plan-number, plan-granted, granted-held, grants-asked}
+use Rattle.header.proofs.KeepsHeader.{plan-number, plan-granted, granted-held, plan-short, grants-asked}
 
 module _ (h : List ℕ) {p : Plan} (e : p ≡ planOf h) where
   number-is : p .number ≡ planOf h .number
   number-is = ap (λ (q : Plan). q .number) e
+
+  -- so that the length of its block does not overflow
+  pub plan-brief : p .bytes ≤ longestField
+  plan-brief = subst (λ (q : Plan). q .bytes ≤ longestField) (sym e) (plan-short h)
 
   module _ (gs : List Ground) where
     plan-then : firstOf (planGrounds h ++ gs) ≡ pick (eqb (p .number) 0) (firstOf gs) (p .number)

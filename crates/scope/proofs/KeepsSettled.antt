@@ -22,6 +22,7 @@ settled =
       field-bytes = λ _ _ x y. (same (x .allowed) (y .allowed), refl);
       common-copy = λ _ _ x y. (same (x .allowed) (y .allowed), refl);
       plan-of = λ _ _ x y. (same (x .allowed) (y .allowed), refl);
+      read-by = λ _ _ x y. (same (x .allowed .0) (y .allowed .0), λ i. (tt, (tt, (same (x .allowed .1) (y .allowed .1) i, tt))));
       read = λ _ _ x y. (same (x .allowed .0) (y .allowed .0), λ i. (tt, (same (x .allowed .1) (y .allowed .1) i, tt)));
       locate = λ _ _ x y. (same (x .allowed) (y .allowed), refl);
       record-in = λ _ _ x y. (same (x .allowed) (y .allowed), refl);

@@ -15,6 +15,7 @@ use Rattle.row.proofs.permits
 use Rattle.row.proofs.field_bytes
 use Rattle.header.proofs.common_copy
 use Rattle.header.proofs.plan_of
+use Rattle.block.proofs.read_by
 use Rattle.block.proofs.read
 use Rattle.records.proofs.locate
 use Rattle.records.proofs.record_in
@@ -72,6 +73,7 @@ pub record AllSettled : Type 0 where
   pub common-copy : Settled common_copy.ended common_copy.Reads.Learnt
   pub plan-of : Settled plan_of.ended plan_of.Reads.Learnt
   -- block
+  pub read-by : Settled read_by.ended read_by.Reads.Learnt
   pub read : Settled read.ended read.Reads.Learnt
   -- records
   pub locate : Settled locate.ended locate.Reads.Learnt

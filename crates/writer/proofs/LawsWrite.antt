@@ -12,11 +12,10 @@ use Rattle.ground.specs.Choice.{pick}
 use Rattle.ground.proofs.LawsChoice.{yes, no}
 use Rattle.ground.proofs.LawsGrounds.{accepts, refuses}
 use Rattle.bits.specs.Fields.{allFit}
-use Rattle.row.specs.Promises.{longestField, Held}
+use Rattle.row.specs.Promises.{Held}
 use Rattle.header.specs.Says.{sizeIn, wordsIn, bytesIn}
 use Rattle.header.specs.Plans.{planOf, grantedPlan}
 use Rattle.header.specs.declared.Plan.{Plan}
-use Rattle.header.proofs.KeepsHeader.{plan-short}
 use Rattle.header.proofs.LawsThen.{header-decides, others-decide, plan-is, plan-held}
 use Rattle.block.specs.Layout.{blockLength}
 use Rattle.writer.specs.declared.Written.{Written}
@@ -36,10 +35,6 @@ module _ (h ws : List ℕ) where
         → (record { number = 0; bytes = blockBytes h } ≡ writtenOf h ws (length room)) × (after ≡ roomWritten h ws room)
     unfolding writtenOf roomWritten
     accepted e {after} a = (accepts (record { number = 0; bytes = blockBytes h }) refusedWritten e, a ∙ accepts _ (λ _. room) e)
-
--- a plan's field is no longer than the longest, so the block's length does not overflow
-pub plan-brief : (h : List ℕ) {p : Plan} → p ≡ planOf h → p .bytes ≤ longestField
-plan-brief h e = subst (λ (q : Plan). q .bytes ≤ longestField) (sym e) (plan-short h)
 
 -- ---- the writer's ends, one for each return
 

@@ -1,17 +1,6 @@
--- `read` answers by the number of the first ground that holds, and takes the words where there is none.
+-- `block::read` meets its contract: a return for the copies, and two for what is behind them, read by the common header.
 -- Assumes nothing.
-use Prim.Native.Nat.{ℕ, _≤_}
-use mathlib.Core.Path.{sym, _∙_, subst}
-use mathlib.Core.List.{_++_}
-use lib.ListN.{length, drop}
-use Rattle.ground.proofs.LawsGrounds.{accepts, refuses}
-use Rattle.row.specs.Promises.{longestField}
-use Rattle.header.specs.declared.Plan.{Plan}
-use Rattle.header.specs.Says.{wordsIn}
-use Rattle.header.specs.Copies.{headerIn}
-use Rattle.header.proofs.KeepsHeader.{plan-short}
-use Rattle.block.specs.Answers.{refusedAnswer, acceptedAnswer, answerOf, wordsBy, roomAfter}
-use Rattle.block.proofs.LawsReader.{Called, called-number, called-held, called-answer, called-words}
+use Rattle.block.proofs.LawsReader.{copies-refused, rest-refused, whole-read}
 use borrow.Author.Needs.{needs}
 use Rattle.block.proofs.read.Statement.{statement}
 use Rattle.block.proofs.read.Tie as tie
@@ -19,71 +8,61 @@ use Rattle.block.proofs.read.Tie as tie
 common-copy-requires : tie.Need-common-copy-requires
 common-copy-requires c κs = search needs
 
-slice-aggregate-plan-of : tie.Need-slice-aggregate-plan-of
-slice-aggregate-plan-of c = search needs
-
-plan-of-requires : tie.Need-plan-of-requires
-plan-of-requires c κs = search needs
-
-refusal-requires : tie.Need-refusal-requires
-refusal-requires c κs = subst (λ (p : Plan). p .bytes ≤ longestField) (sym (c .plan-of .ensures)) (plan-short _)
-
 refused-requires : tie.Need-refused-requires
 refused-requires c κs = search needs
 
 returns : tie.Need-returns
-unfolding answerOf roomAfter
 returns c =
     let p = c .before .before .before in
-    let a = p .before .before .before .before .before .before .args in
-    let b = a .block .now in
-    let r = a .room .now in
-    let k : Called b (length r) _ _ _ = record { agreed = p .before .before .before .common-copy .ensures; planned = p .plan-of .ensures; numbered = c .before .before .refusal .ensures } in
-    let n = called-number k in
-    let some = c .before .if1 .taken in (
-      c .refused .ensures ∙ refuses (acceptedAnswer b) refusedAnswer n some,
-      refuses (wordsBy (headerIn b) b ++ drop (wordsIn (headerIn b)) r) (λ (_ : ℕ). r) n some,
-    )
+    let a = p .before .before .before .args in
+    copies-refused (a .block .now) (a .room .now) (p .common-copy .ensures) (c .before .if1 .taken) (c .refused .ensures)
 
-take-requires : tie.Need-take-requires
-take-requires c κs =
-    let p = c .before .before .before in
-    let a = p .before .before .before .before .before .before .args in
-    let k : Called (a .block .now) (length (a .room .now)) _ _ _ = record { agreed = p .before .before .before .common-copy .ensures; planned = p .plan-of .ensures; numbered = c .before .before .refusal .ensures } in
-    called-held k (c .before .if1 .left)
+slice-aggregate-read-by : tie.Need-slice-aggregate-read-by
+slice-aggregate-read-by c = search needs
 
-accepted-requires : tie.Need-accepted-requires
-accepted-requires c κs = search needs
+read-by-requires : tie.Need-read-by-requires
+read-by-requires c κs = search needs
+
+refused-requires-2 : tie.Need-refused-requires-2
+refused-requires-2 c κs = search needs
 
 same-length : tie.Need-same-length
 same-length c = search needs
 
 returns-2 : tie.Need-returns-2
-unfolding answerOf roomAfter
 returns-2 c =
-    let t = c .before .before .before in
-    let n = t .before .before .before in
-    let p = n .before in
-    let a = p .before .before .before .before .before .before .args in
-    let b = a .block .now in
-    let r = a .room .now in
-    let k : Called b (length r) _ _ _ = record { agreed = p .before .before .before .common-copy .ensures; planned = p .plan-of .ensures; numbered = n .refusal .ensures } in
-    let none = t .before .before .if1 .left in (
-      c .accepted .ensures ∙ called-answer k none ∙ accepts (acceptedAnswer b) refusedAnswer (called-number k ∙ none),
-      t .take .ensures ∙ called-words k none r ∙ accepts (wordsBy (headerIn b) b ++ drop (wordsIn (headerIn b)) r) (λ (_ : ℕ). r) (called-number k ∙ none),
-    )
+    let r = c .before .before .before .before .before in
+    let i = r .before .before .before .before in
+    let p = i .before .before in
+    let a = p .before .before .before .args in
+    rest-refused (a .block .now) (a .room .now) (p .common-copy .ensures) (i .if1 .left) (r .read-by .ensures .0) (r .read-by .ensures .1) (c .before .if2 .taken) (c .refused2 .ensures)
+
+accepted-requires : tie.Need-accepted-requires
+accepted-requires c κs = search needs
+
+same-length-2 : tie.Need-same-length-2
+same-length-2 c = search needs
+
+returns-3 : tie.Need-returns-3
+returns-3 c =
+    let r = c .before .before .before .before .before in
+    let i = r .before .before .before .before in
+    let p = i .before .before in
+    let a = p .before .before .before .args in
+    whole-read (a .block .now) (a .room .now) (p .common-copy .ensures) (i .if1 .left) (r .read-by .ensures .0) (r .read-by .ensures .1) (c .before .if2 .left) (c .accepted .ensures)
 
 pub read-spec : {M : Type 1} → statement M
 read-spec =
     tie.close
     (tie.spec
     common-copy-requires
-    slice-aggregate-plan-of
-    plan-of-requires
-    refusal-requires
     refused-requires
     returns
-    take-requires
-    accepted-requires
+    slice-aggregate-read-by
+    read-by-requires
+    refused-requires-2
     same-length
-    returns-2)
+    returns-2
+    accepted-requires
+    same-length-2
+    returns-3)

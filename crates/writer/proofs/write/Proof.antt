@@ -1,8 +1,8 @@
 -- `writer::write` meets its contract: a return for each ground in its order, and one for the block written.
 -- Assumes nothing.
 use native.Mathlib.Omega.{arith}
-use Rattle.header.proofs.LawsThen.{plan-long}
-use Rattle.writer.proofs.LawsWrite.{plan-brief, header-refused, length-refused, room-refused, held, word-refused, block-written}
+use Rattle.header.proofs.LawsThen.{plan-brief, plan-long}
+use Rattle.writer.proofs.LawsWrite.{header-refused, length-refused, room-refused, held, word-refused, block-written}
 use borrow.Author.Needs.{needs}
 use Rattle.writer.proofs.write.Statement.{statement}
 use Rattle.writer.proofs.write.Tie as tie
