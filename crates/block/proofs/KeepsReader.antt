@@ -157,7 +157,7 @@ module _ (block : List ℕ) (bytes : Below 256 block) where
   pub accepted-meets : (room : ℕ) → Accepted block room → (m : Meets block) × (m .words ≤ room)
   accepted-meets room e = none-meets block bytes room (first-none (groundsOf block (headerIn block) room) refl (sym (refuses-in-order block room) ∙ e))
 
-  accepted-answer : (room : ℕ) → Accepted block room → answerOf block room ≡ acceptedAnswer block
+  pub accepted-answer : (room : ℕ) → Accepted block room → answerOf block room ≡ acceptedAnswer block
   accepted-answer room e = let k = accepted-meets room e in meets-answer room (k .0) (k .1)
 
   -- a mark that says whether a copy passes says so truly

@@ -1,11 +1,11 @@
 -- What the reader promises of blocks, which are bytes.
 -- Assumes nothing.
-use Prim.Native.Nat.{ℕ, _^_, _<_, _≤_}
+use Prim.Native.Nat.{ℕ, _-_, _^_, _<_, _≤_}
 use mathlib.Core.Path.{_≡_}
 use mathlib.Core.Logic.{_↔_, _⊎_}
 use mathlib.Core.Bool.{true}
 use mathlib.Core.List.{List, _∷_, _++_}
-use lib.ListN.{length, take, drop}
+use lib.ListN.{length, take, drop, set}
 use Rattle.ground.specs.Grounds.{Ground, firstOf, NoneHolds}
 use Rattle.bits.specs.Bits.{Below, spell, words, sent}
 use Rattle.bits.specs.Fields.{fillOf}
@@ -15,7 +15,7 @@ use Rattle.check_word.specs.Finds.{Passes}
 use Rattle.row.specs.Field.{fieldBytes, fillBits}
 use Rattle.row.specs.Promises.{mostWords}
 use Rattle.header.specs.Says.{headerLength}
-use Rattle.header.specs.Copies.{copyLength, copyAt, headerIn}
+use Rattle.header.specs.Copies.{copyLength, copiesLength, copyAt, headerIn}
 use Rattle.header.specs.Agreed.{Agreed, NoneAgreed}
 use Rattle.block.specs.Layout.{informationField}
 use Rattle.block.specs.Grounds.{groundsBy, groundsOf}
@@ -98,6 +98,37 @@ pub record GivesWords : Type 0 where
   pub sent-ones : (block room ws fill : List ℕ) → Below 256 block → (m : Meets block) → m .words ≤ length room
       → length ws ≡ m .words → Below (2 ^ m .size) ws → sent (informationField (fieldBytes (m .number) (m .words)) block) ≡ spell (m .size) ws ++ fill
       → roomAfter block room ≡ ws ++ drop (m .words) room
+
+-- ---- data marked not valid is read like any other
+
+-- Word 9 of a header, which says whether data is valid, is not read.
+pub record MarkUnread : Type 0 where
+  pub answer : (h block : List ℕ) (lent mark : ℕ) → judgedBy (set h (9 - 1) mark) block lent ≡ judgedBy h block lent
+  pub left : (h block room : List ℕ) (mark : ℕ) → roomBy (set h (9 - 1) mark) block room ≡ roomBy h block room
+
+-- two blocks that are sent alike but for that word: the same copies pass, they agree on headers that differ there, and what lies behind them is equal
+pub record MarkedApart (one other : List ℕ) (mark : ℕ) : Type 0 where
+  pub copy : List ℕ
+  pub copy′ : List ℕ
+  pub agreed : Agreed one copy
+  pub agreed′ : Agreed other copy′
+  pub header : take headerLength copy′ ≡ set (take headerLength copy) (9 - 1) mark
+  pub passing : (k : ℕ) → k < 3 → Passes generator (copyAt k one) ↔ Passes generator (copyAt k other)
+  pub behind : drop copiesLength other ≡ drop copiesLength one
+
+-- the same answer, with that word of its header, if it has one, set; and the same room afterwards
+pub record MarkedAlike (one other : List ℕ) (mark : ℕ) (room : List ℕ) : Type 0 where
+  pub number : answerOf other (length room) .number ≡ answerOf one (length room) .number
+  pub count : answerOf other (length room) .words ≡ answerOf one (length room) .words
+  pub first : answerOf other (length room) .first ≡ answerOf one (length room) .first
+  pub second : answerOf other (length room) .second ≡ answerOf one (length room) .second
+  pub third : answerOf other (length room) .third ≡ answerOf one (length room) .third
+  pub header : Accepted one (length room) → answerOf other (length room) .header ≡ set (answerOf one (length room) .header) (9 - 1) mark
+  pub left : roomAfter other room ≡ roomAfter one room
+
+-- Blocks that are sent alike but for word 9 are read alike.
+abbrev pub ReadsMarkedAlike : Type 0
+ReadsMarkedAlike = (one other room : List ℕ) (mark : ℕ) → Below 256 one → Below 256 other → MarkedApart one other mark → MarkedAlike one other mark room
 
 -- ---- demand 3
 
