@@ -23,7 +23,8 @@ use Rattle.block.specs.declared.Judged.{Judged}
 use Rattle.block.specs.Grounds.{refusalBy}
 use Rattle.block.specs.Answers.{refusedAnswer, answerOf, roomAfter, judgedBy, roomBy}
 use Rattle.block.specs.Promises.{Accepted, MarkUnread, MarkedApart, ReadsMarkedAlike}
-use Rattle.block.proofs.KeepsReader.{refusal-leaves, reads-by-common, accepted-answer, answers-truly}
+use Rattle.block.proofs.KeepsReader.{refusal-leaves, accepted-answer, answers-truly}
+use Rattle.block.proofs.KeepsJudged.{reads-by-common}
 
 -- two blocks, read by two headers, are answered alike and leave the room alike
 abbrev Same : (h block k other : List ℕ) → Type 0

@@ -4,14 +4,12 @@
 use Prim.Native.Nat.{ℕ, _+_, _-_, _*_, _%_, _≤_}
 use mathlib.Core.Path.{_≡_, refl, sym, ap, _∙_}
 use mathlib.Core.Logic.{_↔_}
-use mathlib.Core.Bool.{Bool, true, false, not}
+use mathlib.Core.Bool.{Bool, true, not}
 use native.Mathlib.Omega.{arith}
 use mathlib.Core.List.{List, [], _∷_, _++_}
-use lib.Dec.{eqb}
-use lib.ListN.{length, take, drop, length-drop}
+use lib.ListN.{length, drop, length-drop}
 use borrow.Author.Tests.{ltb-true, ltb-false, le-ltb, eq-eqb}
-use Rattle.ground.specs.Choice.{pick}
-use Rattle.ground.specs.Grounds.{_when_, firstOf}
+use Rattle.ground.specs.Grounds.{_when_}
 use Rattle.ground.proofs.LawsTests.{never}
 use Rattle.ground.proofs.LawsGrounds.{accepts, refuses, reads-number, none-first, first-none, none-split, exactly}
 use Rattle.bits.specs.Bits.{Below, spell, words, sent}
@@ -22,19 +20,17 @@ use Rattle.check_word.specs.Finds.{Passes}
 use Rattle.check_word.proofs.LawsPasses.{passes-true, true-passes}
 use Rattle.row.specs.Field.{fieldBytes}
 use Rattle.row.proofs.LawsField.{bits-whole, fields-even, words-at-most}
-use Rattle.header.specs.Says.{headerLength, blockIn, wordsIn, bytesIn}
+use Rattle.header.specs.Says.{blockIn, wordsIn, bytesIn}
 use Rattle.header.specs.Copies.{copiesLength, copyAt, tooShort, noCopyPasses, headerIn, copiesGrounds}
 use Rattle.header.specs.Plans.{headerGrounds}
-use Rattle.header.specs.Agreed.{Agreed}
 use Rattle.header.proofs.LawsAsks.{none-asks}
-use Rattle.header.proofs.LawsAgreed.{agreed-none, copy-bytes, none-passes, passes-none}
+use Rattle.header.proofs.LawsAgreed.{copy-bytes, none-passes, passes-none}
 use Rattle.block.specs.declared.Answer.{Answer}
 use Rattle.block.specs.Layout.{informationField}
-use Rattle.block.specs.Grounds.{wrongLength, offBoundary, smallRoom, groundsBy, refusalBy, groundsOf, refusalOf}
-use Rattle.block.specs.Answers.{refusedAnswer, acceptedAnswer, answerOf, wordsLaid, roomAfter, refusedJudged, acceptedJudged, judgedBy, roomBy}
+use Rattle.block.specs.Grounds.{wrongLength, offBoundary, smallRoom, groundsOf, refusalOf}
+use Rattle.block.specs.Answers.{refusedAnswer, acceptedAnswer, answerOf, wordsLaid, roomAfter}
 use Rattle.block.specs.Meets.{Meets}
-use Rattle.block.specs.Promises.{Accepted, RefusesInOrder, RefusesExactly, RefusalLeaves, TwoExactly, SeventeenNever, NineNever, FillMeasured, JudgesInOrder, ReadsByCommon, AcceptsExactly, AnswersTruly, GivesWords}
-use Rattle.block.proofs.LawsReader.{judged-number, refused-alike, room-alike}
+use Rattle.block.specs.Promises.{Accepted, RefusesInOrder, RefusesExactly, RefusalLeaves, TwoExactly, SeventeenNever, NineNever, FillMeasured, AcceptsExactly, AnswersTruly, GivesWords}
 use Rattle.block.proofs.LawsMeets.{none-meets, meets-none, header-is, words-are, size-is, bytes-are, refused-9}
 
 -- ---- refusals
@@ -46,7 +42,7 @@ refuses-in-order block room = reads-number (acceptedAnswer block) refusedAnswer 
 pub refuses-exactly : RefusesExactly
 refuses-exactly block room = exactly (groundsOf block (headerIn block) room) refl refl (refuses-in-order block room)
 
-number-is : (block : List ℕ) (room : ℕ) → answerOf block room .number ≡ refusalOf block room
+pub number-is : (block : List ℕ) (room : ℕ) → answerOf block room .number ≡ refusalOf block room
 unfolding refusalOf
 number-is = refuses-in-order
 
@@ -90,58 +86,6 @@ pub fill-measured : FillMeasured
 unfolding fillOf fieldBytes
 fill-measured number size count field e =
     length-drop (count * size) (sent field) ∙ ap (λ (n : ℕ). n - count * size) (length-spell 8 field ∙ ap (λ (n : ℕ). n * 8) e ∙ omega (arith, bits-whole number count))
-
--- ---- reading by a lent header
-
-judged-first : (h block : List ℕ) (room : ℕ) → judgedBy h block room .number ≡ firstOf (groundsBy h block room)
-unfolding refusalBy
-judged-first = judged-number
-
-module _ (h block : List ℕ) where
-  judged-zeros : (room : ℕ) → (judgedBy h block room .number ≡ 0 → ⊥) → judgedBy h block room ≡ refusedJudged (judgedBy h block room .number)
-  unfolding judgedBy
-  judged-zeros room f = sym (refuses (acceptedJudged h) refusedJudged (sym (judged-number h block room)) f)
-
-  judged-room : (room : List ℕ) → (judgedBy h block (length room) .number ≡ 0 → ⊥) → roomBy h block room ≡ room
-  unfolding roomBy
-  judged-room room f = sym (refuses (wordsLaid h block room) (λ (_ : ℕ). room) (sym (judged-number h block (length room))) f)
-
-pub judges-in-order : JudgesInOrder
-judges-in-order =
-    record {
-      first = judged-first;
-      exactly = λ h block room. exactly (groundsBy h block room) refl refl (judged-first h block room);
-      zeros = judged-zeros;
-      unchanged = judged-room;
-    }
-
-module _ (block : List ℕ) (none : firstOf (copiesGrounds block) ≡ 0) where
-  abbrev h : List ℕ
-  h = headerIn block
-
-  number-alike : (room : ℕ) → answerOf block room .number ≡ judgedBy h block room .number
-  number-alike room = number-is block room ∙ refused-alike block room none ∙ sym (judged-number h block room)
-
-  count-alike : (room : ℕ) → answerOf block room .words ≡ judgedBy h block room .words
-  unfolding answerOf judgedBy
-  count-alike room =
-      ap (λ (n : ℕ). pick (eqb n 0) (acceptedAnswer block) (refusedAnswer n) .words) (refused-alike block room none)
-      ∙ by (eqb (refusalBy h block room) 0) (refusalBy h block room)
-    where
-      by : (t : Bool) (n : ℕ) → pick t (acceptedAnswer block) (refusedAnswer n) .words ≡ pick t (acceptedJudged h) (refusedJudged n) .words
-      by true n = refl
-      by false n = refl
-
-pub reads-by-common : ReadsByCommon
-reads-by-common =
-    let none : (block c : List ℕ) → Below 256 block → Agreed block c → firstOf (copiesGrounds block) ≡ 0 =
-    λ block c b g. none-first (copiesGrounds block) (agreed-none block b g .0) in
-    let same : (block c : List ℕ) → Below 256 block → Agreed block c → headerIn block ≡ take headerLength c = λ block c b g. ap (take headerLength) (agreed-none block b g .1) in
-    record {
-      number = λ block c room b g. number-alike block (none block c b g) room ∙ ap (λ (x : List ℕ). judgedBy x block room .number) (same block c b g);
-      count = λ block c room b g. count-alike block (none block c b g) room ∙ ap (λ (x : List ℕ). judgedBy x block room .words) (same block c b g);
-      left = λ block c room b g. room-alike block room (none block c b g) ∙ ap (λ (x : List ℕ). roomBy x block room) (same block c b g);
-    }
 
 -- ---- demand 2
 

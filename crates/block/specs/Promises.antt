@@ -15,8 +15,8 @@ use Rattle.check_word.specs.Finds.{Passes}
 use Rattle.row.specs.Field.{fieldBytes, fillBits}
 use Rattle.row.specs.Promises.{mostWords}
 use Rattle.header.specs.Says.{headerLength}
-use Rattle.header.specs.Copies.{copyLength, copiesLength, copyAt, headerIn}
-use Rattle.header.specs.Agreed.{Agreed, NoneAgreed}
+use Rattle.header.specs.Copies.{copiesLength, copyAt, headerIn}
+use Rattle.header.specs.Agreed.{ThreeEqual, Agreed, NoneAgreed}
 use Rattle.block.specs.Layout.{informationField}
 use Rattle.block.specs.Grounds.{groundsBy, groundsOf}
 use Rattle.block.specs.Answers.{refusedJudged, judgedBy, roomBy, refusedAnswer, answerOf, roomAfter}
@@ -132,17 +132,20 @@ ReadsMarkedAlike = (one other room : List ℕ) (mark : ℕ) → Below 256 one �
 
 -- ---- demand 3
 
--- a block: three copies, and the field with its check word behind them
-abbrev pub joinedBlock : (a b c rest : List ℕ) → List ℕ
-joinedBlock a b c rest = a ++ (b ++ (c ++ rest))
+-- A kind of change, from bytes as sent to bytes as received, that the check finds: of a string that passes it makes no other that passes.
+abbrev pub Found : (List ℕ → List ℕ → Type 0) → Type 0
+Found Change = (x y : List ℕ) → Below 256 x → Change x y → (x ≡ y → ⊥) → Passes generator x → Passes generator y → ⊥
 
--- x, y and z are the copy a three times, with at most two of them altered, each inside one run of 16 bits in the order sent
-pub record TwoAltered (a x y z : List ℕ) : Type 0 where
-  pub long : length a ≡ copyLength
-  pub first : Altered 16 a x
-  pub second : Altered 16 a y
-  pub third : Altered 16 a z
-  pub whole : (x ≡ a) ⊎ ((y ≡ a) ⊎ (z ≡ a))
+-- the block one was sent with three copies c; other was received, as long, and at most two of its copies are changed
+pub record Received (Change : List ℕ → List ℕ → Type 0) (one other c : List ℕ) : Type 0 where
+  pub bytes : Below 256 one
+  pub bytes′ : Below 256 other
+  pub long : length other ≡ length one
+  pub equal : ThreeEqual one c
+  pub each : (k : ℕ) → k < 3 → (copyAt k other ≡ c) ⊎ Change c (copyAt k other)
+  pub place : ℕ
+  pub within : place < 3
+  pub whole : copyAt place other ≡ c
 
 -- the same number, header and count, and the same room afterwards
 pub record Alike (one other room : List ℕ) : Type 0 where
@@ -151,12 +154,19 @@ pub record Alike (one other room : List ℕ) : Type 0 where
   pub count : answerOf one (length room) .words ≡ answerOf other (length room) .words
   pub left : roomAfter one room ≡ roomAfter other room
 
--- A block was sent with three equal copies, and is accepted as sent. With at most two copies altered, each inside one run of 16 bits, it is
--- accepted with the same header and words. With the field and its check word altered besides, at least one bit, all inside one run of
--- 16 bits, it is refusal 10, and the room is as it was.
-pub record FindsAltered : Type 0 where
-  pub copies : (a x y z rest room : List ℕ) → Below 256 a → Below 256 rest → Accepted (joinedBlock a a a rest) (length room) → TwoAltered a x y z
-      → Alike (joinedBlock x y z rest) (joinedBlock a a a rest) room
-  pub field : (a x y z rest other room : List ℕ) → Below 256 a → Below 256 rest → Accepted (joinedBlock a a a rest) (length room) → TwoAltered a x y z
-      → Altered 16 rest other → (rest ≡ other → ⊥)
-      → (answerOf (joinedBlock x y z other) (length room) ≡ refusedAnswer 10) × (roomAfter (joinedBlock x y z other) room ≡ room)
+-- A block was sent with three equal copies, and is accepted as sent. With at most two copies changed it is accepted with the same header and
+-- words. With the field and its check word changed besides, at least one bit, it is refusal 10, and the room is as it was.
+pub record Bears (Change : List ℕ → List ℕ → Type 0) : Type 0 where
+  pub copies : (one other c room : List ℕ) → Received Change one other c → Accepted one (length room)
+      → drop copiesLength other ≡ drop copiesLength one → Alike other one room
+  pub field : (one other c room : List ℕ) → Received Change one other c → Accepted one (length room)
+      → Change (drop copiesLength one) (drop copiesLength other) → (drop copiesLength one ≡ drop copiesLength other → ⊥)
+      → (answerOf other (length room) ≡ refusedAnswer 10) × (roomAfter other room ≡ room)
+
+-- So it is for every kind of change that the check finds.
+abbrev pub BearsFound : Type 1
+BearsFound = (Change : List ℕ → List ℕ → Type 0) → Found Change → Bears Change
+
+-- Such are bits altered inside one run of 16, in the order sent: in each changed copy one run, and one in the field with its check word.
+abbrev pub FindsAltered : Type 0
+FindsAltered = Bears (Altered 16)

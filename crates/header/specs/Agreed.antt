@@ -8,6 +8,10 @@ use Rattle.check_word.specs.Check.{generator}
 use Rattle.check_word.specs.Finds.{Passes}
 use Rattle.header.specs.Copies.{copiesLength, copyAt}
 
+-- a block with three equal copies: each of them is c
+abbrev pub ThreeEqual : (block c : List ℕ) → Type 0
+ThreeEqual block c = (k : ℕ) → k < 3 → copyAt k block ≡ c
+
 -- A copy passes when its check agrees. All passing copies must be equal. The header is that common copy: c is one of the three, it passes,
 -- and each one that passes is c.
 pub record Agreed (block c : List ℕ) : Type 0 where

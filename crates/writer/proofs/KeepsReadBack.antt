@@ -4,7 +4,7 @@
 use Prim.Native.Nat.{ℕ, _-_, _*_, _≤_, _<_}
 use mathlib.Core.Path.{_≡_, refl, sym, ap, _∙_, subst}
 use mathlib.Core.Bool.{true}
-use mathlib.Core.List.{List, [], _∷_, _++_}
+use mathlib.Core.List.{List, _++_}
 use native.Mathlib.Omega.{arith}
 use lib.Dec.{lit<}
 use lib.ListN.{length, take, drop, getD, replicate}
@@ -21,18 +21,17 @@ use Rattle.row.specs.Field.{fieldBytes}
 use Rattle.row.proofs.LawsField.{words-held}
 use Rattle.header.specs.Says.{headerLength, wordsIn}
 use Rattle.header.specs.Copies.{copyLength, copiesLength, copyAt, headerIn}
+use Rattle.header.specs.Agreed.{ThreeEqual}
 use Rattle.header.specs.Asks.{Asks}
-use Rattle.header.proofs.LawsAgreed.{each}
 use Rattle.block.specs.Layout.{blockLength, informationField}
 use Rattle.block.specs.Answers.{answerOf, roomAfter}
 use Rattle.block.specs.Meets.{Meets}
 use Rattle.block.proofs.LawsMeets.{fill-each, header-is, words-are}
 use Rattle.block.proofs.KeepsReader.{meets-answer, gives-words}
-use Rattle.block.proofs.KeepsAltered.{behind-3, copies-are, block-bytes}
 use Rattle.writer.specs.Blocks.{sealed, blockOf}
 use Rattle.writer.specs.Answers.{writtenBlock}
 use Rattle.writer.specs.Promises.{AsksFor, WritesBlocks, wholeAnswer, Gives, ReadsBack}
-use Rattle.writer.proofs.LawsBlocks.{length-sealed, sealed-passes, sealed-below, block-parts, length-block}
+use Rattle.writer.proofs.LawsBlocks.{length-sealed, sealed-passes, sealed-below, thrice, thrice-below, behind-3, thrice-equal, block-parts, length-block}
 use Rattle.writer.proofs.KeepsWriter.{bytes-are, writes-exactly}
 
 module _ (h ws : List ℕ) (a : AsksFor h ws) where
@@ -53,7 +52,7 @@ module _ (h ws : List ℕ) (a : AsksFor h ws) where
 
   -- the written block, taken apart
   abbrev block : List ℕ
-  block = copy ++ (copy ++ (copy ++ sealed field))
+  block = thrice copy (sealed field)
 
   pub written-parts : writtenBlock h ws ≡ block
   written-parts = (λ i. blockOf h (a .asks .size i) (bytes-are h ws a i) ws) ∙ block-parts h size bytes ws
@@ -61,14 +60,14 @@ module _ (h ws : List ℕ) (a : AsksFor h ws) where
   long : length copy ≡ copyLength
   long = length-sealed h ∙ omega (arith, a .long)
 
-  copies : (k : ℕ) → k < 3 → copyAt k block ≡ copy
-  copies k l = copies-are copy copy copy (sealed field) long long long k l ∙ each (λ k. getD (copy ∷ copy ∷ copy ∷ []) k [] ≡ copy) refl refl refl k l
+  copies : ThreeEqual block copy
+  copies = thrice-equal copy (sealed field) long
 
   header-in : take headerLength copy ≡ h
   header-in = take-at h (bytesOf (checkWord h)) headerLength (a .long)
 
   behind : drop copiesLength block ≡ sealed field
-  behind = behind-3 copy copy copy (sealed field) long long long
+  behind = behind-3 copy (sealed field) long
 
   field-in : informationField bytes block ≡ field
   field-in = ap (take bytes) behind ∙ take-at field (bytesOf (checkWord field)) bytes (length-fieldOf size bytes ws)
@@ -112,9 +111,7 @@ module _ (h ws : List ℕ) (a : AsksFor h ws) where
 
   module _ (b : Below 256 h) where
     block-below : Below 256 block
-    block-below =
-        let c = sealed-below h b in
-        block-bytes copy copy copy (sealed field) c c c (sealed-below field (fieldOf-below size bytes ws))
+    block-below = thrice-below copy (sealed field) (sealed-below h b) (sealed-below field (fieldOf-below size bytes ws))
 
     passed : (k : ℕ) → k < 3 → passes (copyAt k block) ≡ true
     passed k l = ap passes (copies k l) ∙ true-passes copy (sealed-passes h)

@@ -1,10 +1,11 @@
 -- Rewriting an accepted block whose copies are equal returns its bytes: each copy passes, and the field does, so each of them is its front
 -- with the check word behind it; and the words of a field whose fill is zero make that field.
 -- Assumes nothing.
-use Prim.Native.Nat.{ℕ, _+_, _*_, _≤_}
-use mathlib.Core.Path.{_≡_, refl, sym, ap, ap₂, _∙_, subst}
+use Prim.Native.Nat.{ℕ, _+_, _*_, _≤_, _<_}
+use mathlib.Core.Path.{_≡_, sym, ap, ap₂, _∙_, subst}
 use mathlib.Core.List.{List, _++_}
 use native.Mathlib.Omega.{arith}
+use lib.Dec.{lit<}
 use lib.ListN.{length, take, drop, length-drop, take-append-drop}
 use lib.Seq.{take-at, drop-drop, length-take-le}
 use Rattle.bits.specs.Bits.{Below}
@@ -17,7 +18,8 @@ use Rattle.row.proofs.LawsField.{words-held}
 use Rattle.header.specs.Says.{headerLength}
 use Rattle.header.specs.Copies.{copyLength, copiesLength, copyAt}
 use Rattle.header.specs.Asks.{Asks}
-use Rattle.header.proofs.LawsAgreed.{each, copy-long}
+use Rattle.header.specs.Agreed.{ThreeEqual}
+use Rattle.header.proofs.LawsAgreed.{copy-long}
 use Rattle.block.specs.Layout.{blockLength, informationField}
 use Rattle.block.specs.Meets.{Meets}
 use Rattle.block.proofs.LawsMeets.{each-fill}
@@ -25,7 +27,7 @@ use Rattle.block.proofs.LawsReader.{field-long}
 use Rattle.block.proofs.KeepsReader.{accepted-meets, answers-truly, words-cut}
 use Rattle.writer.specs.Blocks.{sealed}
 use Rattle.writer.specs.Answers.{writtenBlock}
-use Rattle.writer.specs.Promises.{Writable, AsksFor, Puts, headerRead, wordsRead, CopiesEqual, WritesBack}
+use Rattle.writer.specs.Promises.{Writable, AsksFor, Puts, headerRead, wordsRead, WritesBack}
 use Rattle.writer.proofs.LawsBlocks.{passes-sealed}
 use Rattle.writer.proofs.KeepsWriter.{writes-exactly, writes-front}
 use Rattle.writer.proofs.KeepsReadBack.{written-parts}
@@ -85,19 +87,19 @@ module _ (block : List ℕ) (m : Meets block) where
         ∙ put-taken (m .size) (m .words) field field-below (omega arith) (each-fill (m .size) (m .words) field (m .filled)))
         ∙ passes-sealed (drop copiesLength block) bytes long (m .checked)
 
-    module _ (same : CopiesEqual block) where
-      first-again : sealed header ≡ copyAt 0 block
-      first-again =
+    module _ (c : List ℕ) (same : ThreeEqual block c) where
+      copy-again : (k : ℕ) → k < 3 → sealed header ≡ copyAt k block
+      copy-again k l =
           let g = m .agreed in
-          passes-sealed (m .copy) headerLength common-long (g .passing) ∙ sym (g .there)
-          ∙ each (λ k. copyAt k block ≡ copyAt 0 block) refl (same .second) (same .third) (g .place) (g .within)
+          passes-sealed (m .copy) headerLength common-long (g .passing) ∙ sym (g .there) ∙ same (g .place) (g .within) ∙ sym (same k l)
 
       written-again : writtenBlock header words ≡ block
       unfolding asks-for
       written-again =
-          let second = first-again ∙ sym (same .second) in
-          let third = first-again ∙ sym (same .third) in
-          written-parts header words asks-for ∙ (λ i. first-again i ++ (second i ++ (third i ++ rest-again i))) ∙ whole block
+          let first = copy-again 0 (lit< tt) in
+          let second = copy-again 1 (lit< tt) in
+          let third = copy-again 2 (lit< tt) in
+          written-parts header words asks-for ∙ (λ i. first i ++ (second i ++ (third i ++ rest-again i))) ∙ whole block
 
     module _ (room : List ℕ) (r : m .words ≤ length room) where
       header-read : headerRead block room ≡ header
@@ -108,10 +110,10 @@ module _ (block : List ℕ) (m : Meets block) where
       words-read = ap₂ take (answers-truly .count block (length room) b m r) (words-cut block room b m r) ∙ take-at words (drop (m .words) room) (m .words) words-long
 
 pub writes-back : WritesBack
-writes-back block room lent b e same l =
+writes-back block c room lent b e same l =
     let k = accepted-meets block b (length room) e in
     let m = k .0 in
     let put = writes-front (header block m) (words block m) lent (writable block m (length lent) l) in
     subst (λ (s : List ℕ). Puts s (wordsRead block room) block lent) (sym (header-read block m b room (k .1)))
     (subst (λ (s : List ℕ). Puts (header block m) s block lent) (sym (words-read block m b room (k .1)))
-    (subst (λ (s : List ℕ). Puts (header block m) (words block m) s lent) (written-again block m b same) put))
+    (subst (λ (s : List ℕ). Puts (header block m) (words block m) s lent) (written-again block m b c same) put))

@@ -1,13 +1,13 @@
 -- A message with its check word behind it passes, and what passes is one; and a block made of such messages, taken apart.
 -- Assumes nothing.
-use Prim.Native.Nat.{ℕ, _+_, _<_}
+use Prim.Native.Nat.{ℕ, _+_, _*_, _<_}
 use mathlib.Core.Path.{_≡_, refl, sym, ap, _∙_}
 use mathlib.Core.List.{List, _++_, append-assoc}
 use native.Mathlib.Omega.{arith}
 use lib.Bits.{xor-lt}
 use lib.Dec.{lit<}
-use lib.ListN.{length, take, length-append}
-use lib.Seq.{take-at}
+use lib.ListN.{length, take, drop, length-append}
+use lib.Seq.{take-at, drop-at, drop-drop}
 use Rattle.bits.specs.Bits.{Below, sent}
 use Rattle.bits.specs.Fields.{fieldOf}
 use Rattle.bits.proofs.LawsBelow.{below-append}
@@ -17,7 +17,9 @@ use Rattle.check_word.specs.Check.{generator, checkBy, checkLength, checkWord, 
 use Rattle.check_word.specs.Finds.{Passes}
 use Rattle.check_word.proofs.LawsFeed.{feed-lt}
 use Rattle.header.specs.Says.{headerLength}
-use Rattle.header.specs.Copies.{copiesLength}
+use Rattle.header.specs.Copies.{copyLength, copiesLength, copyAt}
+use Rattle.header.specs.Agreed.{ThreeEqual}
+use Rattle.header.proofs.LawsAgreed.{each}
 use Rattle.block.specs.Layout.{blockLength}
 use Rattle.writer.specs.Blocks.{sealed, copiesOf, blockOf}
 
@@ -46,11 +48,34 @@ sealed-below m b = below-append 256 m (bytesOf (checkWord m)) b (omega (arith, c
 pub copies-long : (h : List ℕ) → length h ≡ headerLength → length (copiesOf h) ≡ copiesLength
 copies-long h l = let c = sealed h in length-append c (c ++ c) ∙ omega (arith, length-append c c, length-sealed h)
 
+-- a copy three times, and what stands behind it
+module _ (c rest : List ℕ) where
+  abbrev pub thrice : List ℕ
+  thrice = c ++ (c ++ (c ++ rest))
+
+  pub thrice-below : Below 256 c → Below 256 rest → Below 256 thrice
+  thrice-below bc br = below-append 256 c (c ++ (c ++ rest)) bc (below-append 256 c (c ++ rest) bc (below-append 256 c rest bc br))
+
+  module _ (l : length c ≡ copyLength) where
+    behind-1 : drop copyLength thrice ≡ c ++ (c ++ rest)
+    behind-1 = drop-at c (c ++ (c ++ rest)) copyLength l
+
+    behind-2 : drop (2 * copyLength) thrice ≡ c ++ rest
+    behind-2 = sym (drop-drop copyLength copyLength thrice) ∙ ap (drop copyLength) behind-1 ∙ drop-at c (c ++ rest) copyLength l
+
+    pub behind-3 : drop copiesLength thrice ≡ rest
+    behind-3 = sym (drop-drop copyLength (2 * copyLength) thrice) ∙ ap (drop copyLength) behind-2 ∙ drop-at c rest copyLength l
+
+    pub thrice-equal : ThreeEqual thrice c
+    thrice-equal =
+        each (λ k. copyAt k thrice ≡ c) (take-at c (c ++ (c ++ rest)) copyLength l)
+        (ap (take copyLength) behind-1 ∙ take-at c (c ++ rest) copyLength l) (ap (take copyLength) behind-2 ∙ take-at c rest copyLength l)
+
 module _ (h : List ℕ) (size bytes : ℕ) (ws : List ℕ) where
   abbrev field : List ℕ
   field = fieldOf size bytes ws
 
-  pub block-parts : blockOf h size bytes ws ≡ sealed h ++ (sealed h ++ (sealed h ++ sealed field))
+  pub block-parts : blockOf h size bytes ws ≡ thrice (sealed h) (sealed field)
   unfolding blockOf
   block-parts =
       let c = sealed h in

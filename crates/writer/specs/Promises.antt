@@ -10,7 +10,7 @@ use Rattle.ground.specs.Grounds.{Ground, firstOf, NoneHolds}
 use Rattle.bits.specs.Bits.{Below}
 use Rattle.row.specs.Field.{fieldBytes}
 use Rattle.header.specs.Says.{headerLength}
-use Rattle.header.specs.Copies.{copyAt}
+use Rattle.header.specs.Agreed.{ThreeEqual}
 use Rattle.header.specs.Asks.{Asks}
 use Rattle.block.specs.declared.Answer.{Answer}
 use Rattle.block.specs.Layout.{blockLength}
@@ -96,13 +96,8 @@ headerRead block room = answerOf block (length room) .header
 abbrev pub wordsRead : (block room : List ℕ) → List ℕ
 wordsRead block room = take (answerOf block (length room) .words) (roomAfter block room)
 
--- the three copies are equal
-pub record CopiesEqual (block : List ℕ) : Type 0 where
-  pub second : copyAt 1 block ≡ copyAt 0 block
-  pub third : copyAt 2 block ≡ copyAt 0 block
-
 -- Rewriting an accepted block whose copies are equal returns its bytes.
 abbrev pub WritesBack : Type 0
 WritesBack =
-    (block room dest : List ℕ) → Below 256 block → Accepted block (length room) → CopiesEqual block → length block ≤ length dest
+    (block c room dest : List ℕ) → Below 256 block → Accepted block (length room) → ThreeEqual block c → length block ≤ length dest
     → Puts (headerRead block room) (wordsRead block room) block dest
