@@ -1,2 +1,3 @@
+pub mod LawsReasons
 pub mod KeepsTable
 pub mod KeepsSettled

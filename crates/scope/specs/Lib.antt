@@ -1,3 +1,4 @@
+pub mod Notions
 pub mod Outcomes
 pub mod Settled
 pub mod Table

@@ -1,0 +1,93 @@
+-- The first of several reasons is one number; and the first ground of a list of tests, as the code has them, is the first of the reasons
+-- that these tell: test by test, what was found decides the reason.
+-- Assumes nothing.
+use Prim.Native.Nat.{ℕ, _<_}
+use mathlib.Core.Path.{_≡_, refl, sym, _∙_}
+use mathlib.Core.Logic.{_⊎_, inl, inr, _↔_}
+use mathlib.Core.Bool.{Bool, true, false, not, _&&_, _||_}
+use mathlib.Core.List.{List, [], _∷_, _++_}
+use native.Mathlib.Omega.{arith}
+use lib.Dec.{eqb, ltb}
+use borrow.Author.Tests.{eqb-true, eqb-false, ltb-true, ltb-false, not-true, not-false}
+use Rattle.ground.specs.Choice.{pick}
+use Rattle.ground.specs.Grounds.{Ground, firstOf, NoneHolds}
+use Rattle.ground.proofs.LawsTests.{never, split, neither}
+use Rattle.scope.specs.Notions.{Reason, FirstOf, GivenOnce}
+
+pub given-once : GivenOnce
+given-once [] m n x y = x ∙ sym y
+given-once (r ∷ rs) m n (inl x) (inl y) = x .1 ∙ sym (y .1)
+given-once (r ∷ rs) m n (inl x) (inr y) = absurd (y .0 (x .0))
+given-once (r ∷ rs) m n (inr x) (inl y) = absurd (x .0 (y .0))
+given-once (r ∷ rs) m n (inr x) (inr y) = given-once rs m n (x .1) (y .1)
+
+-- ---- a test tells a reason: that it holds, or that it does not
+
+pub record Tells (t : Bool) (P : Type 0) : Type 0 where
+  pub yes : t ≡ true → P
+  pub no : t ≡ false → P → ⊥
+
+-- the reason in other words
+pub told-as : {t : Bool} {P Q : Type 0} → P ↔ Q → Tells t P → Tells t Q
+told-as e h = record { yes = λ y. e .0 (h .yes y); no = λ n q. h .no n (e .1 q) }
+
+pub tells-true : (t : Bool) → Tells t (t ≡ true)
+tells-true t = record { yes = λ y. y; no = λ n y. never (sym n ∙ y) }
+
+pub tells-eq : (m n : ℕ) → Tells (eqb m n) (m ≡ n)
+tells-eq m n = record { yes = eqb-true m n; no = eqb-false m n }
+
+pub tells-less : (m n : ℕ) → Tells (ltb m n) (m < n)
+tells-less m n = record { yes = ltb-true m n; no = λ f h. omega (arith, ltb-false m n f) }
+
+pub tells-not : {t : Bool} {P : Type 0} → Tells t P → Tells (not t) (P → ⊥)
+tells-not {t} h = record { yes = λ y. h .no (not-true t y); no = λ n f. f (h .yes (not-false t n)) }
+
+pub tells-both : {t u : Bool} {P Q : Type 0} → Tells t P → Tells u Q → Tells (t && u) (P × Q)
+tells-both {t} {u} {P} {Q} h k = record { yes = λ y. let s = split t u y in (h .yes (s .0), k .yes (s .1)); no = λ n p. either-fails t h n p }
+  where
+    either-fails : (t : Bool) → Tells t P → t && u ≡ false → P × Q → ⊥
+    either-fails true h n p = k .no n (p .1)
+    either-fails false h n p = h .no n (p .0)
+
+pub tells-either : {t u : Bool} {P Q : Type 0} → Tells t P → Tells u Q → Tells (t || u) (P ⊎ Q)
+tells-either {t} {u} {P} {Q} h k = record { yes = one-holds t h; no = λ n. none (neither t u n) }
+  where
+    one-holds : (t : Bool) → Tells t P → t || u ≡ true → P ⊎ Q
+    one-holds true h y = inl (h .yes y)
+    one-holds false h y = inr (k .yes y)
+
+    none : (t ≡ false) × (u ≡ false) → P ⊎ Q → ⊥
+    none n (inl p) = h .no (n .0) p
+    none n (inr q) = k .no (n .1) q
+
+-- ---- tests in a row tell reasons in a row, of the same numbers; of a later one it is enough to know it where the earlier do not hold
+
+abbrev pub AllTell : List Ground → List Reason → Type 0
+AllTell [] [] = Unit {0}
+AllTell [] (r ∷ rs) = ⊥
+AllTell (g ∷ gs) [] = ⊥
+AllTell (g ∷ gs) (r ∷ rs) = (g .number ≡ r .number) × Tells (g .holds) (r .holds) × (g .holds ≡ false → (r .holds → ⊥) → AllTell gs rs)
+
+pub first-reason : (gs : List Ground) (rs : List Reason) → AllTell gs rs → FirstOf rs (firstOf gs)
+first-reason [] [] h = refl
+first-reason [] (r ∷ rs) h = absurd h
+first-reason (g ∷ gs) [] h = absurd h
+first-reason (g ∷ gs) (r ∷ rs) h = by (g .holds) refl (λ e. first-reason gs rs (h .2 e (h .1 .no e)))
+  where
+    by : (t : Bool) → g .holds ≡ t → (g .holds ≡ false → FirstOf rs (firstOf gs)) → FirstOf (r ∷ rs) (pick t (g .number) (firstOf gs))
+    by true e f = inl (h .1 .yes e, h .0)
+    by false e f = inr (h .1 .no e, f e)
+
+-- none of the reasons holds
+abbrev pub NoReason : List Reason → Type 0
+NoReason [] = Unit {0}
+NoReason (r ∷ rs) = (r .holds → ⊥) × NoReason rs
+
+-- one row behind another
+pub tell-joined : (gs : List Ground) (rs : List Reason) (hs : List Ground) (ss : List Reason) → AllTell gs rs → (NoneHolds gs → NoReason rs → AllTell hs ss)
+    → AllTell (gs ++ hs) (rs ++ ss)
+tell-joined [] [] hs ss h k = k tt tt
+tell-joined [] (r ∷ rs) hs ss h k = absurd h
+tell-joined (g ∷ gs) [] hs ss h k = absurd h
+tell-joined (g ∷ gs) (r ∷ rs) hs ss h k = (h .0, h .1, λ e n. tell-joined gs rs hs ss (h .2 e n) (λ es ns. k (e, es) (n, ns)))
