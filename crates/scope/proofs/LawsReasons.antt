@@ -61,6 +61,14 @@ tells-either {t} {u} {P} {Q} h k = record { yes = one-holds t h; no = λ n. none
     none n (inl p) = h .no (n .0) p
     none n (inr q) = k .no (n .1) q
 
+-- a reason that a test tells, with what follows where it does not hold: the shape of `FirstOf`
+pub decided : {t : Bool} {P R : Type 0} {m n : ℕ} → Tells t P → (t ≡ true → P → n ≡ m) → (t ≡ false → (P → ⊥) → R) → (P × (n ≡ m)) ⊎ ((P → ⊥) × R)
+decided {t} {P} {R} {m} {n} h f g = by t refl
+  where
+    by : (u : Bool) → t ≡ u → (P × (n ≡ m)) ⊎ ((P → ⊥) × R)
+    by true e = inl (h .yes e, f e (h .yes e))
+    by false e = inr (h .no e, g e (h .no e))
+
 -- ---- tests in a row tell reasons in a row, of the same numbers; of a later one it is enough to know it where the earlier do not hold
 
 abbrev pub AllTell : List Ground → List Reason → Type 0

@@ -1,3 +1,4 @@
 pub mod LawsReasons
 pub mod KeepsTable
 pub mod KeepsSettled
+pub mod KeepsTags

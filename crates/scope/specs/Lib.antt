@@ -1,4 +1,5 @@
 pub mod Notions
+pub mod Tags
 pub mod Outcomes
 pub mod Settled
 pub mod Table
