@@ -2,3 +2,4 @@ pub mod LawsReasons
 pub mod KeepsTable
 pub mod KeepsSettled
 pub mod KeepsTags
+pub mod KeepsParity

@@ -1,5 +1,6 @@
 pub mod Notions
 pub mod Tags
+pub mod Parity
 pub mod Outcomes
 pub mod Settled
 pub mod Table
