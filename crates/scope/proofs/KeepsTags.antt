@@ -9,7 +9,7 @@ use mathlib.Core.List.{List, [], _∷_}
 use native.Mathlib.Numerals.{add-one}
 use native.Mathlib.Omega.{arith}
 use lib.Dec.{leb, ltb}
-use lib.IntN.{ℤ, pos, negsuc, _-ℤ_, +ℤ-negℤ-cancel}
+use lib.IntN.{pos, negsuc, _-ℤ_, +ℤ-negℤ-cancel}
 use lib.ListN.{length, getD}
 use borrow.Author.Tests.{leb-true, leb-false, le-leb, ltb-true, ltb-false, lt-ltb, le-ltb, not-true, not-false}
 use Rattle.ground.specs.Choice.{pick}
@@ -31,7 +31,7 @@ use Rattle.tag.proofs.LawsTimes.{minus, answer, counted, not-counted}
 use Rattle.tag.proofs.KeepsTags as Kept
 use Rattle.tag.proofs.KeepsTimes as Times
 use Rattle.scope.specs.Notions.{_if_, FirstOf}
-use Rattle.scope.specs.Tags.{digits, digit, Says, LeapYear, Bounds, Bad, noTag, ofDay, Reading, Writing, Elapsing}
+use Rattle.scope.specs.Tags.{digits, digit, Says, LeapYear, Bounds, Bad, ofDay, Reading, Writing, Elapsing}
 use Rattle.scope.proofs.LawsReasons.{Tells, told-as, tells-true, tells-eq, tells-not, tells-both, tells-either, decided}
 
 -- ---- a list of known length, element by element

@@ -3,9 +3,9 @@
 use Prim.Native.Nat.{ℕ, _+_, _*_, _/_, _%_, _≤_, _<_}
 use mathlib.Core.Path.{_≡_}
 use mathlib.Core.Logic.{_⊎_, _↔_}
-use mathlib.Core.Bool.{Bool, true, false}
+use mathlib.Core.Bool.{true, false}
 use mathlib.Core.List.{List, [], _∷_}
-use lib.IntN.{ℤ, pos, _-ℤ_, negℤ, _+ℤ_}
+use lib.IntN.{pos, _-ℤ_, negℤ, _+ℤ_}
 use lib.ListN.{length, getD, replicate}
 use Rattle.bits.specs.Bits.{Below}
 use Rattle.tag.specs.Tags.{inBounds, readTag, writeTag}
