@@ -3,3 +3,4 @@ pub mod KeepsTable
 pub mod KeepsSettled
 pub mod KeepsTags
 pub mod KeepsParity
+pub mod KeepsWatch
