@@ -96,7 +96,7 @@ module _ (block : List ℕ) where
   mark-nth = each (λ k. getD (passes (copyAt 0 block) ∷ passes (copyAt 1 block) ∷ passes (copyAt 2 block) ∷ []) k false ≡ passes (copyAt k block)) refl refl refl
 
   -- where no two differ, all that pass are equal
-  all-equal : copiesDiffer block ≡ false → (j k : ℕ) → j < 3 → k < 3 → passes (copyAt j block) ≡ true → passes (copyAt k block) ≡ true → copyAt j block ≡ copyAt k block
+  pub all-equal : copiesDiffer block ≡ false → (j k : ℕ) → j < 3 → k < 3 → passes (copyAt j block) ≡ true → passes (copyAt k block) ≡ true → copyAt j block ≡ copyAt k block
   all-equal d j k hj hk =
       let a = copyAt 0 block in
       let b = copyAt 1 block in

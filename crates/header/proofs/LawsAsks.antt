@@ -19,16 +19,16 @@ use Rattle.header.specs.Asks.{IsBlock, zeroth, itself, Asks}
 use Rattle.header.proofs.LawsPlans.{clear}
 
 -- the number of a block id is the block's
-is-number : {id b : ℕ} → IsBlock id b → numberOf id ≡ b
+pub is-number : {id b : ℕ} → IsBlock id b → numberOf id ≡ b
 unfolding numberOf
 is-number zeroth = refl
 is-number (itself n l h) = sym (no _ refl (ne-eqb n 240 (λ e. omega arith)) (yes _ refl (both (le-leb 1 n l) (le-leb n 11 h)) refl))
 
-is-known : {id b : ℕ} → IsBlock id b → b ≤ 11
+pub is-known : {id b : ℕ} → IsBlock id b → b ≤ 11
 is-known zeroth = lit≤ tt
 is-known (itself n l h) = h
 
-number-is : (id : ℕ) → numberOf id ≤ 11 → IsBlock id (numberOf id)
+pub number-is : (id : ℕ) → numberOf id ≤ 11 → IsBlock id (numberOf id)
 unfolding numberOf
 number-is id =
     either (λ b. b ≤ 11 → IsBlock id b) (eqb id 240) (λ e _. subst (λ (k : ℕ). IsBlock k 0) (sym (eqb-true id 240 e)) zeroth)

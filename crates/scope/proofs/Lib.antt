@@ -1,6 +1,12 @@
 pub mod LawsReasons
-pub mod KeepsTable
-pub mod KeepsSettled
+pub mod LawsFormat
+pub mod LawsGrounds
+pub mod KeepsSizes
+pub mod KeepsRefusals
+pub mod KeepsRecords
 pub mod KeepsTags
 pub mod KeepsParity
 pub mod KeepsWatch
+pub mod KeepsTable
+pub mod KeepsDemands
+pub mod KeepsSettled

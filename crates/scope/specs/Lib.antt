@@ -1,7 +1,12 @@
 pub mod Notions
+pub mod Sizes
+pub mod Blocks
+pub mod Records
+pub mod Refusals
 pub mod Tags
 pub mod Parity
 pub mod Watch
+pub mod Table
+pub mod Demands
 pub mod Outcomes
 pub mod Settled
-pub mod Table

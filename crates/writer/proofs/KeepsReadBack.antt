@@ -30,7 +30,7 @@ use Rattle.block.proofs.LawsMeets.{fill-each, header-is, words-are}
 use Rattle.block.proofs.KeepsReader.{meets-answer, gives-words}
 use Rattle.writer.specs.Blocks.{sealed, blockOf}
 use Rattle.writer.specs.Answers.{writtenBlock}
-use Rattle.writer.specs.Promises.{AsksFor, WritesBlocks, wholeAnswer, Gives, ReadsBack}
+use Rattle.writer.specs.Promises.{Writable, AsksFor, WritesBlocks, wholeAnswer, Gives, ReadsBack}
 use Rattle.writer.proofs.LawsBlocks.{length-sealed, sealed-passes, sealed-below, thrice, thrice-below, behind-3, thrice-equal, block-parts, length-block}
 use Rattle.writer.proofs.KeepsWriter.{bytes-are, writes-exactly}
 
@@ -133,6 +133,10 @@ module _ (h ws : List ℕ) (a : AsksFor h ws) where
 
 pub writes-blocks : WritesBlocks
 writes-blocks h ws room e = let a = writes-exactly .only h ws room e .0 in subst Meets (sym (written-parts h ws a)) (meets h ws a)
+
+-- and their copies are equal
+pub written-copies : (h ws : List ℕ) (room : ℕ) → Writable h ws room → ThreeEqual (writtenBlock h ws) (sealed h)
+written-copies h ws room e = let a = writes-exactly .only h ws room e .0 in subst (λ (s : List ℕ). ThreeEqual s (sealed h)) (sym (written-parts h ws a)) (copies h ws a)
 
 pub reads-back : ReadsBack
 reads-back h ws room lent b e r =
