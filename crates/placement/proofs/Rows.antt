@@ -1,15 +1,18 @@
--- The rule of the code's table, proved at a whole row by one computed test: each pair of digits names what `placeOf` gives for the
--- block and the record that the pair stands for.
+-- The rule of each of the code's tables, proved by one computed test: every entry says what `placeOf` gives for the block, version and
+-- record that it stands for.
 -- Assumes nothing.
 use mathlib.Core.Path.{_≡_, ap, ap₂, _∙_}
 use mathlib.Core.Bool.{Bool, _&&_}
-use Prim.Native.Nat.{ℕ, _+_, _*_, _-_, _/_, _%_, _≤_, _<_}
+use mathlib.Core.List.{List, [], _∷_, _++_}
+use Prim.Native.Nat.{ℕ, _+_, _-_, _≤_}
 use native.Mathlib.Omega.{arith}
 use lib.Dec.{T, eqb, eqb→eq}
-use Rattle.placement.specs.declared.Placed.{Placed}
-use Rattle.placement.specs.Placement.{placeOf}
-use Rattle.placement.specs.Table.{pairAt, namedBy}
+use lib.ListN.{getD, take}
 use Rattle.ground.proofs.LawsTests.{T-first, T-second}
+use Rattle.placement.specs.declared.Held.{Held}
+use Rattle.placement.specs.declared.Placed.{Placed}
+use Rattle.placement.specs.Placement.{_det_, visibleHeld, heldIn, recordsHeld, placeOf}
+use Rattle.placement.specs.Table.{groupOf, namedBy}
 use Rattle.placement.proofs.LawsBelow.{below, below-at}
 
 abbrev same : Placed → Placed → Bool
@@ -23,31 +26,40 @@ same-eq p q t =
     let d : p .detector ≡ q .detector = eqb→eq (p .detector) (q .detector) (T-second (eqb (p .channel) (q .channel)) _ rest) in
     λ i. record { number = n i; channel = c i; detector = d i }
 
--- at each of a row's pairs, in two versions from the first
-abbrev pub keepsRule : ℕ → ℕ → (ℕ → ℕ) → (ℕ → ℕ) → Bool
-keepsRule row first blockAt recordAt =
-    below 8 (λ at. below 2 (λ v. same (namedBy (pairAt row at)) (placeOf (blockAt at) (first + v) (recordAt at))))
+-- the records that a block holds, filled up to four entries
+abbrev filled : List Held → List Held
+filled held = take 4 (held ++ (0 det 0 ∷ []))
 
-rule : (row first : ℕ) (blockAt recordAt : ℕ → ℕ) → T (keepsRule row first blockAt recordAt)
-    → (at version : ℕ) → at < 8 → first ≤ version → version < first + 2
-    → namedBy (pairAt row at) ≡ placeOf (blockAt at) version (recordAt at)
-rule row first blockAt recordAt t at version h lo hi =
-    let test : ℕ → ℕ → Bool = λ at v. same (namedBy (pairAt row at)) (placeOf (blockAt at) (first + v) (recordAt at)) in
-    let v = version - first in
-    same-eq _ _ (below-at 2 (test at) (below-at 8 (λ at. below 2 (test at)) t at h) v (omega arith))
-    ∙ ap (λ (n : ℕ). placeOf (blockAt at) n (recordAt at)) (omega arith)
+-- blocks 1 and 2 of a version
+abbrev group : ℕ → List (List Held)
+group version = filled (heldIn 1 version) ∷ filled (heldIn 2 version) ∷ []
 
--- blocks 1 and 2, four pairs each
-pub infrared-row : (row first : ℕ) → T (keepsRule row first (λ at. at / 4 + 1) (λ at. at % 4 + 1)) → (block version k : ℕ)
-    → (1 ≤ block) × (block ≤ 2) × (first ≤ version) × (version < first + 2) × (1 ≤ k) × (k ≤ 4)
-    → namedBy (pairAt row ((block - 1) * 4 + (k - 1))) ≡ placeOf block version k
-infrared-row row first t block version k h =
-    rule row first (λ at. at / 4 + 1) (λ at. at % 4 + 1) t ((block - 1) * 4 + (k - 1)) version (omega arith) (h .2) (h .3)
-    ∙ ap₂ (λ (b r : ℕ). placeOf b version r) (omega arith) (omega arith)
+-- the table of blocks 1 and 2 by version group, block and record, these two counted from 0; a group's first version stands for it
+abbrev pub entry : ℕ → ℕ → ℕ → Held
+entry g b k = getD (getD (getD (group 0 ∷ group 2 ∷ group 3 ∷ []) g []) b []) k (0 det 0)
 
--- blocks 3 to 10, a pair each
-pub visible-row : (row : ℕ) → T (keepsRule row 0 (λ at. at + 3) (λ at. 1)) → (block : ℕ) → 3 ≤ block → block ≤ 10
-    → namedBy (pairAt row (block - 3)) ≡ placeOf block 0 1
-visible-row row t block lo hi =
-    rule row 0 (λ at. at + 3) (λ at. 1) t (block - 3) 0 (omega arith) (omega arith) (omega arith)
-    ∙ ap (λ (b : ℕ). placeOf b 0 1) (omega arith)
+abbrev right : ℕ → ℕ → ℕ → Bool
+right version b k = same (namedBy (entry (groupOf version) b k)) (placeOf (b + 1) version (k + 1))
+
+all-right : T (below 4 (λ version. below 2 (λ b. below 4 (right version b))))
+unfolding namedBy groupOf placeOf heldIn recordsHeld
+all-right = tt
+
+pub infrared-rule : (block version k : ℕ) → (1 ≤ block) × (block ≤ 2) × (version ≤ 3) × (1 ≤ k) × (k ≤ 4)
+    → {g : ℕ} → g ≡ groupOf version → namedBy (entry g (block - 1) (k - 1)) ≡ placeOf block version k
+infrared-rule block version k h {g} e =
+    let there = below-at 4 (λ v. below 2 (λ b. below 4 (right v b))) all-right version (omega arith) in
+    let at = below-at 4 (right version (block - 1)) (below-at 2 (λ b. below 4 (right version b)) there (block - 1) (omega arith)) (k - 1) (omega arith) in
+    ap (λ (g : ℕ). namedBy (entry g (block - 1) (k - 1))) e
+    ∙ same-eq _ _ at ∙ ap₂ (λ (b r : ℕ). placeOf b version r) (omega arith) (omega arith)
+
+-- the row of blocks 3 to 10
+abbrev rightVisible : ℕ → Bool
+rightVisible at = same (namedBy (getD visibleHeld at (0 det 0))) (placeOf (at + 3) 0 1)
+
+all-visible : T (below 8 rightVisible)
+unfolding namedBy placeOf heldIn recordsHeld
+all-visible = tt
+
+pub visible-rule : (block : ℕ) → 3 ≤ block → block ≤ 10 → namedBy (getD visibleHeld (block - 3) (0 det 0)) ≡ placeOf block 0 1
+visible-rule block lo hi = same-eq _ _ (below-at 8 rightVisible all-visible (block - 3) (omega arith)) ∙ ap (λ (b : ℕ). placeOf b 0 1) (omega arith)

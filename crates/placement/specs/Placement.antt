@@ -7,16 +7,14 @@ use lib.Dec.{eqb, ltb}
 use lib.ListN.{length, getD, take, drop}
 use Rattle.ground.specs.Choice.{pick}
 use Rattle.ground.specs.Grounds.{_when_, firstOf}
+use Rattle.row.specs.Rows.{lastBlock, lastVersion}
+use Rattle.placement.specs.declared.Held.{Held}
 use Rattle.placement.specs.declared.Placed.{Placed}
 
--- What a record holds. The scope's 4/1, channel 4 and detector 1, is `4 det 1`.
-pub record Held : Type 0 where
-  pub channel : ℕ
-  pub detector : ℕ
-
+-- The scope's 4/1, channel 4 and detector 1, is `4 det 1`.
 infix 70 _det_
 abbrev pub _det_ : ℕ → ℕ → Held
-c det d = record { channel = c; detector = d }
+c det d = record { 0 = c; 1 = d }
 
 -- Versions 0, 1: block 1 is 4/1, 4/2, 5/1, 5/2; block 2 is 2/1, 2/2, 3/1.
 abbrev pub early : ℕ → List Held
@@ -31,8 +29,11 @@ late block =
     (pick (eqb block 2) (4 det 1 ∷ 4 det 2 ∷ 6 det 1 ∷ []) [])
 
 -- Blocks 3 to 10, every version: channel 1, detectors 5, 6, 7, 8, 1, 2, 3, 4.
+abbrev pub visibleHeld : List Held
+visibleHeld = map (λ d. 1 det d) (5 ∷ 6 ∷ 7 ∷ 8 ∷ 1 ∷ 2 ∷ 3 ∷ 4 ∷ [])
+
 abbrev pub visible : ℕ → List Held
-visible block = take 1 (drop (block - 3) (map (λ d. 1 det d) (5 ∷ 6 ∷ 7 ∷ 8 ∷ 1 ∷ 2 ∷ 3 ∷ 4 ∷ [])))
+visible block = take 1 (drop (block - 3) visibleHeld)
 
 -- What the records of a block hold, in their order; blocks 0 and 11 have none.
 unfoldable pub heldIn : ℕ → ℕ → List Held
@@ -48,10 +49,10 @@ noRecord block version k = eqb k 0 || ltb (recordsHeld block version) k
 -- A placement asked for by block, version and record tests 4, 5, 13.
 abbrev pub groundOf : ℕ → ℕ → ℕ → ℕ
 groundOf block version k =
-    firstOf ((4 when ltb 11 block) ∷ (5 when ltb 3 version) ∷ (13 when noRecord block version k) ∷ [])
+    firstOf ((4 when ltb lastBlock block) ∷ (5 when ltb lastVersion version) ∷ (13 when noRecord block version k) ∷ [])
 
 abbrev pub accepted : Held → Placed
-accepted h = record { number = 0; channel = h .channel; detector = h .detector }
+accepted h = record { number = 0; channel = h .0; detector = h .1 }
 
 -- A refusal returns its number; every other number in it is zero.
 abbrev pub refusedBy : ℕ → Placed

@@ -1,14 +1,16 @@
--- How the code's table of placements is read: a row is eight pairs of hex digits, counted from 0 and from the left; a pair is a
--- channel and a detector, and 00 is no record.
+-- How the code's tables are read: the group of a version, and what an entry says.
 -- Assumes nothing.
-use Prim.Native.Nat.{ℕ, _-_, _*_, _/_, _%_, _^_}
-use lib.Dec.{eqb}
+use Prim.Native.Nat.{ℕ}
+use lib.Dec.{eqb, ltb}
 use Rattle.ground.specs.Choice.{pick}
+use Rattle.placement.specs.declared.Held.{Held}
 use Rattle.placement.specs.declared.Placed.{Placed}
-use Rattle.placement.specs.Placement.{_det_, accepted, refusedBy}
+use Rattle.placement.specs.Placement.{accepted, refusedBy}
 
-abbrev pub pairAt : ℕ → ℕ → ℕ
-pairAt row at = row / 2 ^ (56 - 8 * at) % 256
+-- versions 0 and 1; 2; 3
+unfoldable pub groupOf : ℕ → ℕ
+groupOf version = pick (ltb version 2) 0 (pick (eqb version 2) 1 2)
 
-unfoldable pub namedBy : ℕ → Placed
-namedBy pair = pick (eqb pair 0) (refusedBy 13) (accepted ((pair / 16) det (pair % 16)))
+-- 0/0 is no record, and no channel is 0
+unfoldable pub namedBy : Held → Placed
+namedBy h = pick (eqb (h .0) 0) (refusedBy 13) (accepted h)

@@ -1,10 +1,11 @@
-// Which channel and detector a record of blocks 1 to 10 holds: the fixed placement by version of 504-02 section 3.2.1, one table of
-// constants and one lookup. What is right is in specs/Placement.antt, how the table is read in specs/Table.antt.
+// Which channel and detector a record of blocks 1 to 10 holds: the fixed placement by version of 504-02 section 3.2.1, two
+// tables of constants and a lookup in each. What is right is in specs/Placement.antt, how an entry is read in specs/Table.antt.
 
 ghost use mathlib.Core.Path.{_≡_};
 ghost use Prim.Native.Nat.{_<_, _≤_};
+ghost use Rattle.row.specs.Rows.{lastVersion};
 ghost use Rattle.placement.specs.Placement.{placeOf, refusedBy};
-ghost use Rattle.placement.specs.Table.{pairAt, namedBy};
+ghost use Rattle.placement.specs.Table.{groupOf, namedBy};
 
 // What a record holds; on a refusal its number, and zeros.
 pub struct Placed {
@@ -13,26 +14,45 @@ pub struct Placed {
     pub detector: u8,
 }
 
-const LAST_BLOCK: u8 = 11;
+// Channel and detector. 0 and 0: the block has no such record.
+struct Held(u8, u8);
 
-const LAST_VERSION: u8 = 3;
-
-const FIRST_LATE_VERSION: u8 = 2;
+const FIRST_INFRARED: u8 = 1;
 
 const FIRST_VISIBLE: u8 = 3;
 
-// Pairs of digits that a row has for each infrared block; where the block has fewer records they end in 00.
-const PAIRS_A_BLOCK: u8 = 4;
+// Records that the table has room for in an infrared block.
+const MOST_RECORDS: u8 = 4;
 
-// Two hex digits a record, channel and detector: 41 is channel 4, detector 1. Each row is read at a constant place and so becomes
-// a number in the code: a lookup copies no table.
-const HELD: [u64; 3] = [
-    // Versions 0, 1: the records of block 1, then those of block 2.
-    0x41_42_51_52_21_22_31_00,
-    // Versions 2, 3: the same.
-    0x21_22_31_32_41_42_61_00,
-    // Every version: blocks 3 to 10, a record each.
-    0x15_16_17_18_11_12_13_14,
+// Blocks 1 and 2 by version group. Version 3 is a group of its own, so far like that of version 2.
+const HELD: [[[Held; 4]; 2]; 3] = [
+    // Versions 0, 1.
+    [
+        [Held(4, 1), Held(4, 2), Held(5, 1), Held(5, 2)],
+        [Held(2, 1), Held(2, 2), Held(3, 1), Held(0, 0)],
+    ],
+    // Version 2.
+    [
+        [Held(2, 1), Held(2, 2), Held(3, 1), Held(3, 2)],
+        [Held(4, 1), Held(4, 2), Held(6, 1), Held(0, 0)],
+    ],
+    // Version 3.
+    [
+        [Held(2, 1), Held(2, 2), Held(3, 1), Held(3, 2)],
+        [Held(4, 1), Held(4, 2), Held(6, 1), Held(0, 0)],
+    ],
+];
+
+// Blocks 3 to 10, a record each, in every version.
+const VISIBLE: [Held; 8] = [
+    Held(1, 5),
+    Held(1, 6),
+    Held(1, 7),
+    Held(1, 8),
+    Held(1, 1),
+    Held(1, 2),
+    Held(1, 3),
+    Held(1, 4),
 ];
 
 fn refused(number: u8) -> Placed
@@ -45,39 +65,46 @@ fn refused(number: u8) -> Placed
     }
 }
 
-// What the pair at a place of a row names, places counted from 0 and from the left.
-fn named(row: u64, at: u8) -> Placed
-    requires { ⌜ at < 8 ⌝ }
-    ensures { λ r. ⌜ r ≡ namedBy (pairAt row at) ⌝ }
+// What an entry of a table says.
+fn named(held: Held) -> Placed
+    ensures { λ r. ⌜ r ≡ namedBy held ⌝ }
 {
-    let pair = ((row >> (56 - 8 * at)) % 256) as u8;
-    if pair == 0 {
+    if held.0 == 0 {
         return refused(ground::NO_RECORD);
     }
     Placed {
         number: ground::ACCEPTED,
-        channel: pair / 16,
-        detector: pair % 16,
+        channel: held.0,
+        detector: held.1,
+    }
+}
+
+fn group_of(version: u8) -> usize
+    ensures { λ r. ⌜ (r ≡ groupOf version) × (r < 3) ⌝ }
+{
+    match version {
+        0 | 1 => 0,
+        2 => 1,
+        _ => 2,
     }
 }
 
 // The records of blocks 1 and 2.
 fn infrared(block: u8, version: u8, record: u8) -> Placed
-    requires { ⌜ (1 ≤ block) × ((block ≤ 2) × (version ≤ 3)) ⌝ }
+    requires { ⌜ (1 ≤ block) × ((block ≤ 2) × (version ≤ lastVersion)) ⌝ }
     ensures { λ r. ⌜ r ≡ placeOf block version «record» ⌝ }
 {
     if record < 1 {
         return refused(ground::NO_RECORD);
     }
-    if PAIRS_A_BLOCK < record {
+    if MOST_RECORDS < record {
         return refused(ground::NO_RECORD);
     }
-    let at = (block - 1) * PAIRS_A_BLOCK + (record - 1);
-    if version < FIRST_LATE_VERSION {
-        named(HELD[0], at)
-    } else {
-        named(HELD[1], at)
-    }
+    let group = group_of(version);
+    let b = (block - FIRST_INFRARED) as usize;
+    let k = (record - 1) as usize;
+    let table = HELD;
+    named(table[group][b][k])
 }
 
 // The one record of each of blocks 3 to 10, where the version does not enter.
@@ -86,7 +113,9 @@ fn visible(block: u8, record: u8) -> Placed
     ensures { λ r. ⌜ r ≡ placeOf block 0 «record» ⌝ }
 {
     if record == 1 {
-        named(HELD[2], block - FIRST_VISIBLE)
+        let at = (block - FIRST_VISIBLE) as usize;
+        let table = VISIBLE;
+        named(table[at])
     } else {
         refused(ground::NO_RECORD)
     }
@@ -104,10 +133,10 @@ fn visible(block: u8, record: u8) -> Placed
 pub fn place(block: u8, version: u8, record: u8) -> Placed
     ensures { λ r. ⌜ r ≡ placeOf block version «record» ⌝ }
 {
-    if LAST_BLOCK < block {
+    if row::LAST_BLOCK < block {
         return refused(ground::UNKNOWN_BLOCK);
     }
-    if LAST_VERSION < version {
+    if row::LAST_VERSION < version {
         return refused(ground::UNKNOWN_VERSION);
     }
     match block {

@@ -8,21 +8,6 @@ use Rattle.placement.specs.Table.{namedBy}
 use Rattle.placement.proofs.named.Statement.{statement}
 use Rattle.placement.proofs.named.Tie as tie
 
-mul-pair : tie.Need-mul-pair
-mul-pair c = search needs
-
-sub-pair : tie.Need-sub-pair
-sub-pair c = search needs
-
-cast-pair : tie.Need-cast-pair
-cast-pair c = search needs
-
-shr-pair : tie.Need-shr-pair
-shr-pair c = search needs
-
-cast-pair-2 : tie.Need-cast-pair-2
-cast-pair-2 c = search needs
-
 refused-requires : tie.Need-refused-requires
 refused-requires c κs = search needs
 
@@ -35,6 +20,4 @@ unfolding namedBy
 returns-2 c = no _ refl (ne-eqb _ 0 (c .if1 .left)) refl
 
 pub named-spec : {M : Type 1} → statement M
-named-spec =
-    tie.close
-    (tie.spec mul-pair sub-pair cast-pair shr-pair cast-pair-2 refused-requires returns returns-2)
+named-spec = tie.close (tie.spec refused-requires returns returns-2)

@@ -7,15 +7,21 @@ use Rattle.placement.specs.Placement.{heldIn, recordsHeld, placeOf}
 use Rattle.placement.specs.Table.{namedBy}
 use Rattle.placement.proofs.LawsPlacement.{absent}
 use Rattle.placement.proofs.LawsRecords.{one-record}
-use Rattle.placement.proofs.Rows.{visible-row}
+use Rattle.placement.proofs.Rows.{visible-rule}
 use Rattle.placement.proofs.visible.Statement.{statement}
 use Rattle.placement.proofs.visible.Tie as tie
 
-array-read-named : tie.Need-array-read-named
-array-read-named c = search needs
+sub-at : tie.Need-sub-at
+sub-at c = search needs
 
-sub-named : tie.Need-sub-named
-sub-named c = search needs
+cast-at : tie.Need-cast-at
+cast-at c = search needs
+
+mul-named : tie.Need-mul-named
+mul-named c = search needs
+
+array-copy-out-named : tie.Need-array-copy-out-named
+array-copy-out-named c = search needs
 
 named-requires : tie.Need-named-requires
 named-requires c κs = search needs
@@ -24,10 +30,9 @@ refused-requires : tie.Need-refused-requires
 refused-requires c κs = search needs
 
 returns : tie.Need-returns
-unfolding placeOf heldIn recordsHeld namedBy
 returns c =
-    let a = c .before .before .args in
-    c .named .ensures ∙ visible-row _ tt (a .block) (omega arith) (omega arith) ∙ ap (placeOf (a .block) 0) (sym (c .before .if1 .taken))
+    let a = c .before .before .before .args in
+    c .named .ensures ∙ visible-rule (a .block) (omega arith) (omega arith) ∙ ap (placeOf (a .block) 0) (sym (c .before .before .if1 .taken))
 
 returns-2 : tie.Need-returns-2
 returns-2 c =
@@ -38,4 +43,12 @@ returns-2 c =
 pub visible-spec : {M : Type 1} → statement M
 visible-spec =
     tie.close
-    (tie.spec array-read-named sub-named named-requires refused-requires returns returns-2)
+    (tie.spec
+    sub-at
+    cast-at
+    mul-named
+    array-copy-out-named
+    named-requires
+    refused-requires
+    returns
+    returns-2)
