@@ -1,18 +1,19 @@
 -- The decision over block numbers is the printed table: its row takes a size and a count exactly where they suit the block.
 -- Assumes nothing.
-use Prim.Native.Nat.{ℕ, _+_, _*_, _-_, _/_, _%_, _<_, _≤_}
+use Prim.Native.Nat.{ℕ, _+_, _*_, _<_, _≤_}
 use mathlib.Core.Path.{_≡_, refl, sym, ap, _∙_, subst}
 use mathlib.Core.Bool.{Bool, true, false, _&&_}
 use native.Mathlib.Omega.{arith}
-use lib.Dec.{lit<, lit≤, eqb, ltb, leb}
+use lib.Dec.{lit<, eqb, leb}
 use lib.Arith.{lt-of-le-ne}
-use borrow.Author.Tests.{leb-true, leb-false, eqb-true, eqb-false, ne-eqb, eq-eqb, lt-ltb, le-leb, lt-leb}
+use borrow.Author.Tests.{leb-true, leb-false, eqb-true, eqb-false, ne-eqb, le-leb, lt-leb}
 use Rattle.ground.proofs.LawsChoice.{yes, no, either}
 use Rattle.ground.proofs.LawsTests.{both, split, not-second}
 use Rattle.row.specs.declared.Row.{Row}
 use Rattle.row.specs.Rows.{recordsIn, fixedRow, infraredRow, visibleRow, noRow, rowOf, permits}
 use Rattle.row.specs.Suits.{Suits, zeroth, first, second, others, last6, last8, last10}
 use Rattle.row.specs.Promises.{Takes}
+use Rattle.row.proofs.LawsScan.{permits-fixed, permits-wide, wide-permits}
 
 -- the rows that go by a range of block numbers
 pub row-others : (b v w : ℕ) → 3 ≤ b → b ≤ 10 → visibleRow ≡ rowOf b v w
@@ -73,63 +74,39 @@ row-records b v w =
     let at : (k : ℕ) → b ≡ k → recordsIn k v ≡ recordsIn b v = λ k e. ap (λ (x : ℕ). recordsIn x v) (sym e) in
     row-cases (λ r. r .records ≡ recordsIn b v) b v w (at 0) (at 1) (at 2) (records-others b v) (λ e _. at 11 e) (λ e _. at 11 e) (at 11) (records-none b v)
 
--- ---- the row's test, as facts
-
-step-positive : (b v w : ℕ) → 0 < rowOf b v w .step
-unfolding recordsIn
-step-positive b v w =
-    row-cases (λ r. 0 < r .step) b v w (λ _. lit< tt) (λ _. lit< tt) (λ _. lit< tt) (λ _ _. lit< tt) (λ _ _. lit< tt) (λ _ _. lit< tt) (λ _. lit< tt) (λ _. lit< tt)
-
-record Range (r : Row) (w n : ℕ) : Type 0 where
-  sized : r .size ≡ w
-  low : r .least ≤ n
-  high : n ≤ r .most
-  whole : n % r .step ≡ 0
-
-permits-range : (r : Row) (w n : ℕ) → r .size ≡ w → permits r n ≡ true → Range r w n
-unfolding permits
-permits-range r w n s e =
-    let a = split (ltb 0 (r .step)) _ e in
-    let b = split (leb (r .least) n) _ (a .1) in
-    let c = split (leb n (r .most)) _ (b .1) in
-    record { sized = s; low = leb-true (r .least) n (b .0); high = leb-true n (r .most) (c .0); whole = eqb-true (n % r .step) 0 (c .1) }
-
-range-permits : (r : Row) (w n : ℕ) → 0 < r .step → Range r w n → permits r n ≡ true
-unfolding permits
-range-permits r w n s k = both (lt-ltb 0 (r .step) s) (both (le-leb (r .least) n (k .low)) (both (le-leb n (r .most) (k .high)) (eq-eqb (n % r .step) 0 (k .whole))))
-
 -- ---- the table is the row's
 
 at : {b w n b′ w′ n′ : ℕ} {v : ℕ} → b ≡ b′ → w ≡ w′ → n ≡ n′ → Suits b′ v w′ n′ → Suits b v w n
 at {b} {w} {n} {b′} {w′} {n′} {v} e f g s = subst (λ (x : ℕ). Suits x v w n) (sym e) (subst (λ (x : ℕ). Suits b′ v x n) (sym f) (subst (λ (x : ℕ). Suits b′ v w′ x) (sym g) s))
 
-range-suits : (b v w n : ℕ) → Range (rowOf b v w) w n → Suits b v w n
+sized-suits : (b v w n : ℕ) → rowOf b v w .size ≡ w → permits (rowOf b v w) n ≡ true → Suits b v w n
 unfolding recordsIn
-range-suits b v w n =
-    row-cases (λ r. Range r w n → Suits b v w n) b v w
-    (λ e k. at e (sym (k .sized)) (omega (arith, k .low, k .high)) zeroth)
-    (λ e k. at e (sym (k .sized)) (omega (arith, k .low, k .whole)) (first {n = n / 4 - 16} (record { narrow = omega (arith, k .low); wide = omega (arith, k .high) })))
-    (λ e k. at e (sym (k .sized)) (omega (arith, k .low, k .whole)) (second {n = n / 3 - 16} (record { narrow = omega (arith, k .low); wide = omega (arith, k .high) })))
-    (λ l h k. at refl (sym (k .sized)) (omega (arith, k .low, k .whole)) (others {n = (n - 16) / 4} l h (record { narrow = omega (arith, k .low); wide = omega (arith, k .high) })))
-    (λ e _ k. at e (sym (k .sized)) (omega (arith, k .low, k .high)) last6)
-    (λ e _ k. at e (sym (k .sized)) (omega (arith, k .low, k .high)) last8)
-    (λ e k. at e (sym (k .sized)) (omega (arith, k .low, k .high)) last10)
-    (λ _ k. absurd (omega (arith, k .low, k .high)))
-
-suits-range : {b v w n : ℕ} → Suits b v w n → Range (rowOf b v w) w n
-unfolding rowOf recordsIn
-suits-range zeroth = record { sized = refl; low = lit≤ tt; high = lit≤ tt; whole = refl }
-suits-range (first {n = n} s) = record { sized = refl; low = omega (arith, s .narrow); high = omega (arith, s .wide); whole = omega arith }
-suits-range (second {n = n} s) = record { sized = refl; low = omega (arith, s .narrow); high = omega (arith, s .wide); whole = omega arith }
-suits-range (others {b} {v} {n} l h s) =
-    subst (λ (r : Row). Range r 10 (16 + 4 * n)) (row-others b v 10 l h)
-    (record { sized = refl; low = omega (arith, s .narrow); high = omega (arith, s .wide); whole = omega arith })
-suits-range last6 = record { sized = refl; low = lit≤ tt; high = lit≤ tt; whole = refl }
-suits-range last8 = record { sized = refl; low = lit≤ tt; high = lit≤ tt; whole = refl }
-suits-range last10 = record { sized = refl; low = lit≤ tt; high = lit≤ tt; whole = refl }
-
-pub suits-takes : {b v w n : ℕ} → Suits b v w n → Takes b v w n
-suits-takes {b} {v} {w} {n} s = let k = suits-range s in record { sized = k .sized; counted = range-permits (rowOf b v w) w n (step-positive b v w) k }
+sized-suits b v w n =
+    let fixed : (r : Row) → r .each ≡ 0 → permits r n ≡ true → n ≡ r .fixed = λ r z h. permits-fixed r n z h .1 in
+    row-cases (λ r. r .size ≡ w → permits r n ≡ true → Suits b v w n) b v w
+    (λ e s h. at e (sym s) (fixed (fixedRow 8) refl h) zeroth)
+    (λ e s h. let k = permits-wide (infraredRow 4) n (lit< tt) h in at e (sym s) (omega (arith, k .counted)) (first (k .scan)))
+    (λ e s h. let k = permits-wide (infraredRow 3) n (lit< tt) h in at e (sym s) (omega (arith, k .counted)) (second (k .scan)))
+    (λ l u s h. let k = permits-wide visibleRow n (lit< tt) h in at refl (sym s) (k .counted) (others l u (k .scan)))
+    (λ e _ s h. at e (sym s) (fixed (fixedRow 6) refl h) last6)
+    (λ e _ s h. at e (sym s) (fixed (fixedRow 8) refl h) last8)
+    (λ e s h. at e (sym s) (fixed (fixedRow 10) refl h) last10)
+    (λ _ s h. let k = permits-fixed noRow n refl h in absurd (omega (arith, k .0, k .1)))
 
 pub takes-suits : {b v w n : ℕ} → Takes b v w n → Suits b v w n
-takes-suits {b} {v} {w} {n} t = range-suits b v w n (permits-range (rowOf b v w) w n (t .sized) (t .counted))
+takes-suits {b} {v} {w} {n} t = sized-suits b v w n (t .sized) (t .counted)
+
+pub suits-takes : {b v w n : ℕ} → Suits b v w n → Takes b v w n
+unfolding rowOf recordsIn permits
+suits-takes zeroth = record { sized = refl; counted = refl }
+suits-takes (first {n = n} s) = record { sized = refl; counted = wide-permits (infraredRow 4) (4 * (16 + n)) (lit< tt) (record { pixels = n; scan = s; counted = omega arith }) }
+suits-takes (second {n = n} s) = record { sized = refl; counted = wide-permits (infraredRow 3) (3 * (16 + n)) (lit< tt) (record { pixels = n; scan = s; counted = omega arith }) }
+suits-takes (others {b} {v} {n} l h s) =
+    let e = row-others b v 10 l h in
+    record {
+      sized = ap (λ (r : Row). r .size) (sym e);
+      counted = subst (λ (r : Row). permits r (16 + 4 * n) ≡ true) e (wide-permits visibleRow (16 + 4 * n) (lit< tt) (record { pixels = n; scan = s; counted = refl }));
+    }
+suits-takes last6 = record { sized = refl; counted = refl }
+suits-takes last8 = record { sized = refl; counted = refl }
+suits-takes last10 = record { sized = refl; counted = refl }

@@ -1,3 +1,4 @@
+pub mod LawsScan
 pub mod LawsRow
 pub mod LawsField
 pub mod KeepsRows

@@ -1,13 +1,13 @@
 -- What the rows promise: the decision over block numbers is the printed table, and a field holds its words.
 -- Assumes nothing.
-use Prim.Native.Nat.{ℕ, _*_, _%_, _≤_}
+use Prim.Native.Nat.{ℕ, _+_, _*_, _%_, _≤_}
 use mathlib.Core.Path.{_≡_}
 use mathlib.Core.Logic.{_↔_}
 use mathlib.Core.Bool.{true}
 use Rattle.row.specs.Pixels.{imageSize}
-use Rattle.row.specs.Rows.{rowOf, permits}
+use Rattle.row.specs.Rows.{rowOf, scanOf, permits}
 use Rattle.row.specs.Field.{fieldBytes, fillBits}
-use Rattle.row.specs.Suits.{Suits}
+use Rattle.row.specs.Suits.{Scan, Suits}
 
 -- the decision takes a size and a count: the size is the row's, and the row permits the count
 pub record Takes (block version size count : ℕ) : Type 0 where
@@ -17,6 +17,12 @@ pub record Takes (block version size count : ℕ) : Type 0 where
 -- it does so exactly where the table says that they suit the block
 abbrev pub DecidesTable : Type 0
 DecidesTable = (block version size count : ℕ) → Takes block version size count ↔ Suits block version size count
+
+-- how wide a scan is: the n of a count that suits blocks 1 to 10
+pub record Widths : Type 0 where
+  pub first : (v n : ℕ) → Scan n → scanOf (rowOf 1 v 10) (4 * (16 + n)) ≡ n
+  pub second : (v n : ℕ) → Scan n → scanOf (rowOf 2 v 10) (3 * (16 + n)) ≡ n
+  pub others : (b v n : ℕ) → 3 ≤ b → b ≤ 10 → Scan n → scanOf (rowOf b v 10) (16 + 4 * n) ≡ n
 
 -- no field has more bytes: so long is that of a scan of 23 degrees, the specification's largest, which no row here permits
 abbrev pub longestField : ℕ

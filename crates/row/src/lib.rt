@@ -2,8 +2,8 @@
 // length of the field that holds them.
 ghost use mathlib.Core.Path.{_≡_};
 ghost use Prim.Native.Nat.{_<_};
-ghost use Rattle.row.specs.Pixels.{visibleOf, recordWords};
-ghost use Rattle.row.specs.Rows.{fixedRow, infraredRow, visibleRow, lastRow, noRow, rowOf, permits};
+ghost use Rattle.row.specs.Pixels.{visibleOf, isScan};
+ghost use Rattle.row.specs.Rows.{fixedRow, infraredRow, visibleRow, lastRow, noRow, rowOf, scanOf, permits};
 ghost use Rattle.row.specs.Field.{fieldBits, fieldBytes};
 
 // Block numbers and versions go from 0 to these.
@@ -24,6 +24,9 @@ const NARROWEST: u16 = 1;
 
 const WIDEST: u16 = 5236;
 
+// The largest number that an `Infrared` holds.
+const MOST_PIXELS: u32 = 65535;
+
 // The words of line documentation in front of a record's pixels.
 const LINE_WORDS: u32 = 16;
 
@@ -37,13 +40,13 @@ const SHORTEST_BITS: usize = 21440;
 
 const UNIT_BITS: usize = 16;
 
-// What a block number allows: words of `size` bits in so many records, their count a multiple of `step` from `least` to `most`.
+// What a block number allows: words of `size` bits in so many records, `fixed` words and `each` for every infrared pixel of a scan.
+// Where `each` is 0 there is no scan.
 pub struct Row {
     pub size: u8,
     pub records: u8,
-    pub least: u32,
-    pub most: u32,
-    pub step: u32,
+    pub fixed: u32,
+    pub each: u32,
 }
 
 // Four times a u16 always fits.
@@ -53,17 +56,11 @@ pub fn to_visible(n: Infrared) -> Visible
     Visible(n.0 as u32 * SPAN)
 }
 
-fn infrared_words(n: Infrared) -> u32
-    ensures { λ r. ⌜ r ≡ recordWords (n .0) ⌝ }
+// The limit of n, in one place.
+fn is_scan(n: Infrared) -> bool
+    ensures { λ r. ⌜ r ≡ isScan (n .0) ⌝ }
 {
-    LINE_WORDS + n.0 as u32
-}
-
-fn visible_words(n: Infrared) -> u32
-    ensures { λ r. ⌜ r ≡ recordWords (visibleOf (n .0)) ⌝ }
-{
-    let seen = to_visible(n);
-    LINE_WORDS + seen.0
+    (NARROWEST <= n.0) & (n.0 <= WIDEST)
 }
 
 // The words of this size that fill the field of blocks 0 and 11.
@@ -71,39 +68,35 @@ fn fixed_row(size: u8) -> Row
     requires { ⌜ 0 < size ⌝ }
     ensures { λ r. ⌜ r ≡ fixedRow size ⌝ }
 {
-    let words = FIXED_BITS / size as u32;
     Row {
         size: size,
         records: 0,
-        least: words,
-        most: words,
-        step: 1,
+        fixed: FIXED_BITS / size as u32,
+        each: 0,
     }
 }
 
 fn infrared_row(records: u8) -> Row
     ensures { λ r. ⌜ r ≡ infraredRow records ⌝ }
 {
-    let step = records as u32;
     Row {
         size: IMAGE_SIZE,
         records: records,
-        least: step * infrared_words(Infrared(NARROWEST)),
-        most: step * infrared_words(Infrared(WIDEST)),
-        step: step,
+        fixed: records as u32 * LINE_WORDS,
+        each: records as u32,
     }
 }
 
-// The 16 words of documentation are a multiple of the span too, and so is the count.
+// A word for each of the visible pixels that one infrared pixel spans.
 fn visible_row() -> Row
     ensures { λ r. ⌜ r ≡ visibleRow ⌝ }
 {
+    let span = to_visible(Infrared(1));
     Row {
         size: IMAGE_SIZE,
         records: 1,
-        least: visible_words(Infrared(NARROWEST)),
-        most: visible_words(Infrared(WIDEST)),
-        step: SPAN,
+        fixed: LINE_WORDS,
+        each: span.0,
     }
 }
 
@@ -113,9 +106,8 @@ fn no_row() -> Row
     Row {
         size: 0,
         records: 0,
-        least: 1,
-        most: 0,
-        step: 1,
+        fixed: 0,
+        each: 0,
     }
 }
 
@@ -144,14 +136,29 @@ pub fn row_of(block: u8, version: u8, size: u8) -> Row
     }
 }
 
-// Whether a row permits a count of words. No row above has a step of 0, and one that has permits none.
+// How wide a scan is: the n of a row and a count of words, 0 where the count has none.
+pub fn scan_of(row: Row, words: u32) -> Infrared
+    ensures { λ r. ⌜ r .0 ≡ scanOf row words ⌝ }
+{
+    if (row.each == 0) | (words < row.fixed) {
+        return Infrared(0);
+    }
+    let rest = words - row.fixed;
+    let n = rest / row.each;
+    if (0 < rest % row.each) | (MOST_PIXELS < n) {
+        return Infrared(0);
+    }
+    Infrared(n as u16)
+}
+
+// Whether a row permits a count of words. That of an unknown block has no words and permits none.
 pub fn permits(row: Row, words: u32) -> bool
     ensures { λ r. ⌜ r ≡ permits row words ⌝ }
 {
-    if row.step == 0 {
-        return false;
+    if row.each == 0 {
+        return (0 < words) & (words == row.fixed);
     }
-    (row.least <= words) & ((words <= row.most) & (words % row.step == 0))
+    is_scan(scan_of(row, words))
 }
 
 fn field_bits(block: u8, words: u32) -> usize

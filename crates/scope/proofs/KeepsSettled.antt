@@ -18,6 +18,7 @@ settled =
       lay = λ _ _ x y. (same (x .allowed .0) (y .allowed .0), λ i. (tt, (same (x .allowed .1) (y .allowed .1) i, (tt, tt))));
       to-visible = λ _ _ x y. (λ i. record { 0 = same (x .allowed) (y .allowed) i }, refl);
       row-of = λ _ _ x y. (same (x .allowed) (y .allowed), refl);
+      scan-of = λ _ _ x y. (λ i. record { 0 = same (x .allowed) (y .allowed) i }, refl);
       permits = λ _ _ x y. (same (x .allowed) (y .allowed), refl);
       field-bytes = λ _ _ x y. (same (x .allowed) (y .allowed), refl);
       common-copy = λ _ _ x y. (same (x .allowed) (y .allowed), refl);

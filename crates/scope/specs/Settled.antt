@@ -11,6 +11,7 @@ use Rattle.check_word.proofs.passes
 use Rattle.room.proofs.lay
 use Rattle.row.proofs.to_visible
 use Rattle.row.proofs.row_of
+use Rattle.row.proofs.scan_of
 use Rattle.row.proofs.permits
 use Rattle.row.proofs.field_bytes
 use Rattle.header.proofs.common_copy
@@ -67,6 +68,7 @@ pub record AllSettled : Type 0 where
   -- row
   pub to-visible : Settled to_visible.ended to_visible.Reads.Learnt
   pub row-of : Settled row_of.ended row_of.Reads.Learnt
+  pub scan-of : Settled scan_of.ended scan_of.Reads.Learnt
   pub permits : Settled permits.ended permits.Reads.Learnt
   pub field-bytes : Settled field_bytes.ended field_bytes.Reads.Learnt
   -- header

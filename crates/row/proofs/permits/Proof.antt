@@ -1,7 +1,9 @@
--- `permits` tests what its definition tests, the step first, by which it divides.
+-- `permits` goes by whether the row is of a scan, as its definition does.
 -- Assumes nothing.
-use native.Mathlib.Omega.{arith}
-use borrow.Author.Tests.{lt-ltb, le-ltb}
+use mathlib.Core.Path.{refl, ap, _∙_}
+use borrow.Author.Tests.{eq-eqb, ne-eqb}
+use Rattle.ground.proofs.LawsChoice.{yes, no}
+use Rattle.row.specs.Pixels.{isScan}
 use Rattle.row.specs.Rows.{permits}
 use borrow.Author.Needs.{needs}
 use Rattle.row.proofs.permits.Statement.{statement}
@@ -9,14 +11,17 @@ use Rattle.row.proofs.permits.Tie as tie
 
 returns : tie.Need-returns
 unfolding permits
-returns c = let z = c .before .before .args .row .step in rw (le-ltb 0 z (omega arith))
+returns c = yes _ refl (eq-eqb _ 0 (c .before .if1 .taken)) refl
 
-rem-result : tie.Need-rem-result
-rem-result c = search needs
+scan-of-requires : tie.Need-scan-of-requires
+scan-of-requires c κs = search needs
+
+is-scan-requires : tie.Need-is-scan-requires
+is-scan-requires c κs = search needs
 
 returns-2 : tie.Need-returns-2
 unfolding permits
-returns-2 c = let z = c .before .before .before .before .before .args .row .step in rw (lt-ltb 0 z (omega arith))
+returns-2 c = no _ refl (ne-eqb _ 0 (c .before .before .if1 .left)) (c .is-scan .ensures ∙ ap isScan (c .before .scan-of .ensures))
 
 pub permits-spec : {M : Type 1} → statement M
-permits-spec = tie.close (tie.spec returns rem-result returns-2)
+permits-spec = tie.close (tie.spec returns scan-of-requires is-scan-requires returns-2)
