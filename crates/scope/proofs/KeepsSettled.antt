@@ -44,6 +44,10 @@ settled =
       front-of = λ _ _ x y. (same (x .allowed) (y .allowed), refl);
       next-field = λ _ _ x y. (same (x .allowed) (y .allowed), refl);
       line-of = λ _ _ x y. (same (x .allowed .0) (y .allowed .0), λ i. (tt, (tt, (tt, (same (x .allowed .1) (y .allowed .1) i, tt)))));
+      in-byte = λ _ _ x y. (same (x .allowed) (y .allowed), refl);
+      in-pair = λ _ _ x y. (same (x .allowed) (y .allowed), refl);
+      is-on = λ _ _ x y. (same (x .allowed) (y .allowed), refl);
+      marked = λ _ _ x y. (same (x .allowed) (y .allowed), refl);
       rahmisve-check-word = λ _ _ x y. (same (x .allowed) (y .allowed), refl);
       rahmisve-take-words = λ _ _ x y. (same (x .allowed .0) (y .allowed .0), λ i. (tt, (tt, (tt, (same (x .allowed .1) (y .allowed .1) i, tt)))));
       rahmisve-put-words = λ _ _ x y. (same (x .allowed .0) (y .allowed .0), λ i. (tt, (tt, (same (x .allowed .1) (y .allowed .1) i, tt))));
@@ -54,6 +58,8 @@ settled =
       rahmisve-place = λ _ _ x y. let e = same (x .allowed) (y .allowed) in (λ i. e i .number, λ i. (tt, (tt, (tt, (e i .channel, (e i .detector, tt))))));
       rahmisve-parity-imager = λ _ _ x y. (same (x .allowed .0) (y .allowed .0), λ i. (tt, (same (x .allowed .1) (y .allowed .1) i, tt)));
       rahmisve-parity-sounder = λ _ _ x y. (same (x .allowed .0) (y .allowed .0), λ i. (tt, (same (x .allowed .1) (y .allowed .1) i, tt)));
+      tag-of = λ _ _ x y. (same (x .allowed) (y .allowed), refl);
+      numbers-of = λ _ _ x y. (same (x .allowed) (y .allowed), refl);
       rahmisve-read-tag = λ _ _ x y. (same (x .allowed .0) (y .allowed .0), λ i. (tt, (same (x .allowed .1) (y .allowed .1) i, tt)));
       rahmisve-write-tag = λ _ _ x y. (same (x .allowed .0) (y .allowed .0), λ i. (tt, (same (x .allowed .1) (y .allowed .1) i, tt)));
       rahmisve-elapsed = λ _ _ x y. let e = same (x .allowed) (y .allowed) in (λ i. e i .number, λ i. (tt, (tt, (e i .ms, tt))));

@@ -37,21 +37,27 @@ use Rattle.watch.proofs.offer
 use Rattle.recording.proofs.front_of
 use Rattle.recording.proofs.next_field
 use Rattle.recording.proofs.line_of
-use Rattle.rahmisve.proofs.fields.rahmisve_check_word
-use Rattle.rahmisve.proofs.fields.rahmisve_take_words
-use Rattle.rahmisve.proofs.fields.rahmisve_put_words
-use Rattle.rahmisve.proofs.blocks.rahmisve_read
-use Rattle.rahmisve.proofs.blocks.rahmisve_plan
-use Rattle.rahmisve.proofs.blocks.rahmisve_write
-use Rattle.rahmisve.proofs.detectors.rahmisve_record
-use Rattle.rahmisve.proofs.detectors.rahmisve_place
-use Rattle.rahmisve.proofs.sections.rahmisve_parity_imager
-use Rattle.rahmisve.proofs.sections.rahmisve_parity_sounder
-use Rattle.rahmisve.proofs.tags.rahmisve_read_tag
-use Rattle.rahmisve.proofs.tags.rahmisve_write_tag
-use Rattle.rahmisve.proofs.tags.rahmisve_elapsed
-use Rattle.rahmisve.proofs.watches.rahmisve_watch_begin
-use Rattle.rahmisve.proofs.watches.rahmisve_watch_offer
+use Rattle.c_numbers.proofs.in_byte
+use Rattle.c_numbers.proofs.in_pair
+use Rattle.c_numbers.proofs.is_on
+use Rattle.c_numbers.proofs.marked
+use Rattle.c_fields.proofs.rahmisve_check_word
+use Rattle.c_fields.proofs.rahmisve_take_words
+use Rattle.c_fields.proofs.rahmisve_put_words
+use Rattle.c_blocks.proofs.rahmisve_read
+use Rattle.c_blocks.proofs.rahmisve_plan
+use Rattle.c_blocks.proofs.rahmisve_write
+use Rattle.c_records.proofs.rahmisve_record
+use Rattle.c_records.proofs.rahmisve_place
+use Rattle.c_parity.proofs.rahmisve_parity_imager
+use Rattle.c_parity.proofs.rahmisve_parity_sounder
+use Rattle.c_tags.proofs.tag_of
+use Rattle.c_tags.proofs.numbers_of
+use Rattle.c_tags.proofs.rahmisve_read_tag
+use Rattle.c_tags.proofs.rahmisve_write_tag
+use Rattle.c_tags.proofs.rahmisve_elapsed
+use Rattle.c_watch.proofs.rahmisve_watch_begin
+use Rattle.c_watch.proofs.rahmisve_watch_offer
 use Rattle.scope.specs.Outcomes.{Settled, SettledUpTo, offered}
 
 pub record AllSettled : Type 0 where
@@ -104,19 +110,31 @@ pub record AllSettled : Type 0 where
   pub front-of : Settled front_of.ended front_of.Reads.Learnt
   pub next-field : Settled next_field.ended next_field.Reads.Learnt
   pub line-of : Settled line_of.ended line_of.Reads.Learnt
-  -- rahmisve
+  -- c_numbers
+  pub in-byte : Settled in_byte.ended in_byte.Reads.Learnt
+  pub in-pair : Settled in_pair.ended in_pair.Reads.Learnt
+  pub is-on : Settled is_on.ended is_on.Reads.Learnt
+  pub marked : Settled marked.ended marked.Reads.Learnt
+  -- c_fields
   pub rahmisve-check-word : Settled rahmisve_check_word.ended rahmisve_check_word.Reads.Learnt
   pub rahmisve-take-words : Settled rahmisve_take_words.ended rahmisve_take_words.Reads.Learnt
   pub rahmisve-put-words : Settled rahmisve_put_words.ended rahmisve_put_words.Reads.Learnt
+  -- c_blocks
   pub rahmisve-read : Settled rahmisve_read.ended rahmisve_read.Reads.Learnt
   pub rahmisve-plan : Settled rahmisve_plan.ended rahmisve_plan.Reads.Learnt
   pub rahmisve-write : Settled rahmisve_write.ended rahmisve_write.Reads.Learnt
+  -- c_records
   pub rahmisve-record : Settled rahmisve_record.ended rahmisve_record.Reads.Learnt
   pub rahmisve-place : Settled rahmisve_place.ended rahmisve_place.Reads.Learnt
+  -- c_parity
   pub rahmisve-parity-imager : Settled rahmisve_parity_imager.ended rahmisve_parity_imager.Reads.Learnt
   pub rahmisve-parity-sounder : Settled rahmisve_parity_sounder.ended rahmisve_parity_sounder.Reads.Learnt
+  -- c_tags
+  pub tag-of : Settled tag_of.ended tag_of.Reads.Learnt
+  pub numbers-of : Settled numbers_of.ended numbers_of.Reads.Learnt
   pub rahmisve-read-tag : Settled rahmisve_read_tag.ended rahmisve_read_tag.Reads.Learnt
   pub rahmisve-write-tag : Settled rahmisve_write_tag.ended rahmisve_write_tag.Reads.Learnt
   pub rahmisve-elapsed : Settled rahmisve_elapsed.ended rahmisve_elapsed.Reads.Learnt
+  -- c_watch
   pub rahmisve-watch-begin : Settled rahmisve_watch_begin.ended rahmisve_watch_begin.Reads.Learnt
   pub rahmisve-watch-offer : Settled rahmisve_watch_offer.ended rahmisve_watch_offer.Reads.Learnt

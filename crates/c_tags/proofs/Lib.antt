@@ -1,0 +1,2 @@
+pub mod LawsTimes
+pub mod KeepsTimes

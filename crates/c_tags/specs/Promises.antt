@@ -1,0 +1,10 @@
+-- What is promised of a time that C keeps as seven numbers.
+-- Assumes nothing.
+use mathlib.Core.Path.{_≡_}
+use Rattle.tag.specs.Promises.{Bounded}
+use Rattle.tag.specs.declared.Tag.{Tag}
+use Rattle.c_tags.specs.Times.{tagFrom, numbersOf}
+
+-- The numbers of a good tag are read as that tag.
+abbrev pub TagKept : Type 0
+TagKept = (t : Tag) → Bounded t → tagFrom 0 (numbersOf t) ≡ t

@@ -1,0 +1,58 @@
+-- The row of a watch follows it. What an offer puts into the row fits: a tag that was read is within its bounds, and an expected block is at
+-- most 10.
+-- Assumes nothing.
+use Prim.Native.Nat.{ℕ, _+_, _≤_}
+use mathlib.Core.Path.{_≡_, refl, sym, ap, _∙_}
+use mathlib.Core.List.{List, [], _∷_}
+use native.Mathlib.Omega.{arith}
+use lib.Dec.{eqb}
+use Rattle.ground.proofs.LawsChoice.{either}
+use Rattle.tag.specs.Tags.{tagOf}
+use Rattle.tag.proofs.LawsBounds.{facts}
+use Rattle.tag.proofs.LawsTags.{good-bounds}
+use Rattle.watch.specs.Bounds.{refusalOf}
+use Rattle.watch.specs.Offers.{Offer, after}
+use Rattle.watch.specs.Rules.{idle, expecting, stepOf}
+use Rattle.watch.specs.declared.Watch.{Watch}
+use Rattle.watch.specs.declared.Begun.{Begun}
+use Rattle.watch.specs.declared.Stepped.{Stepped}
+use Rattle.watch.proofs.KeepsRules.{beginning}
+use Rattle.watch.proofs.LawsRules.{accepted-for, to-ten}
+use Rattle.watch.proofs.LawsTurn.{Turn, refuses, strays, opens, closes, keeps, turn}
+use Rattle.c_watch.specs.Watches.{watchIn, numbersOfWatch, rowAfter, rowBegun}
+use Rattle.c_watch.specs.Promises.{rowsAfter, RowFollows}
+use Rattle.c_numbers.proofs.LawsNumbers.{within, marked}
+use Rattle.c_tags.proofs.LawsTimes.{Held, tag-again, bounded-held}
+
+watch-again : (w : Watch) → w .expected ≤ 255 → Held (w .last) → watchIn (numbersOfWatch w) ≡ w
+watch-again w e h = λ i. record { opened = marked (w .opened) i; expected = sym (within _ _ e) i; last = tag-again (w .last) h i; limit = w .limit }
+
+idle-again : (limit : ℕ) → watchIn (numbersOfWatch (idle limit)) ≡ idle limit
+idle-again limit = watch-again (idle limit) (omega arith) (record { year = omega arith; day = omega arith; hour = omega arith; minute = omega arith; second = omega arith; ms = omega arith })
+
+module _ (row : List ℕ) (b : ℕ) (s : List ℕ) where
+  abbrev w : Watch
+  w = watchIn row
+
+  open-again : refusalOf w b s ≡ 0 → (n : ℕ) → n ≤ 255 → watchIn (numbersOfWatch (expecting n (tagOf s) (w .limit))) ≡ expecting n (tagOf s) (w .limit)
+  open-again e n h = watch-again (expecting n (tagOf s) (w .limit)) h (bounded-held (tagOf s) (facts (tagOf s) (good-bounds s (accepted-for w b s e .tag))))
+
+  followed : {r : Stepped} → Turn w b s r → watchIn (rowAfter r row) ≡ r .next
+  followed (refuses h) = refl
+  followed (strays e o z) = refl
+  followed (opens e z) = open-again e 1 (omega arith)
+  followed (closes e o y) = either (λ (v : Watch). watchIn (numbersOfWatch v) ≡ v) (eqb b 0) (λ _. open-again e 1 (omega arith)) (λ _. idle-again (w .limit))
+  followed (keeps e o m q n) = open-again e (w .expected + 1) (omega (arith, to-ten w (accepted-for w b s e .expected) o))
+
+offers : (row : List ℕ) (os : List Offer) → watchIn (rowsAfter row os) ≡ after (watchIn row) os
+unfolding rowsAfter after
+offers row [] = refl
+offers row (o ∷ os) =
+    offers (rowAfter (stepOf (watchIn row) (o .block) (o .tag)) row) os
+    ∙ ap (λ (v : Watch). after v os) (followed row (o .block) (o .tag) (turn (watchIn row) (o .block) (o .tag)))
+
+pub row-follows : RowFollows
+row-follows = record {
+  begun = λ limit row h. ap (λ (r : Begun). watchIn (rowBegun r row)) (beginning .taken limit h) ∙ idle-again limit;
+  offered = offers;
+}

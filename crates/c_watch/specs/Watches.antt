@@ -1,0 +1,56 @@
+-- The watch as C keeps it, ten numbers in a row: open, expected block, the seven numbers of the last tag, limit.
+-- Assumes nothing.
+use Prim.Native.Nat.{ℕ}
+use mathlib.Core.Bool.{Bool, true, false, not}
+use mathlib.Core.List.{List, [], _∷_, _++_}
+use lib.Dec.{eqb}
+use lib.ListN.{getD}
+use Rattle.ground.specs.Choice.{pick}
+use Rattle.watch.specs.declared.Watch.{Watch}
+use Rattle.watch.specs.declared.Closing.{Closing}
+use Rattle.watch.specs.declared.Closing.the-variants.{ClockBack, Late, Broken, Complete}
+use Rattle.watch.specs.declared.Verdict.{Verdict}
+use Rattle.watch.specs.declared.Verdict.the-variants.{Refused, Stray, Opened, Kept, Closed}
+use Rattle.watch.specs.declared.Stepped.{Stepped}
+use Rattle.watch.specs.declared.Begun.{Begun}
+use Rattle.c_numbers.specs.Numbers.{upTo}
+use Rattle.c_numbers.specs.Marks.{mark}
+use Rattle.c_tags.specs.Times.{tagFrom, numbersOf}
+
+-- The watch in a row of ten numbers, any there are; it is open where the first is not 0.
+abbrev pub watchIn : List ℕ → Watch
+watchIn row = record { opened = not (eqb (getD row 0 0) 0); expected = upTo 255 (getD row 1 0); last = tagFrom 2 row; limit = getD row 9 0 }
+
+-- The numbers of a watch.
+abbrev pub numbersOfWatch : Watch → List ℕ
+numbersOfWatch w = mark (w .opened) ∷ w .expected ∷ (numbersOf (w .last) ++ (w .limit ∷ []))
+
+-- The number of how a scan closed.
+abbrev pub closingCode : Closing → ℕ
+closingCode ClockBack = 4
+closingCode Late = 5
+closingCode Broken = 6
+closingCode Complete = 7
+
+-- The number of what an offer did; 0 where it was refused.
+abbrev pub codeOf : Verdict → ℕ
+codeOf (Refused n) = 0
+codeOf Stray = 1
+codeOf Opened = 2
+codeOf Kept = 3
+codeOf (Closed why) = closingCode why
+
+-- A refused offer and a stray leave the record as it was, to the bit.
+abbrev pub leaves : Verdict → Bool
+leaves (Refused n) = true
+leaves Stray = true
+leaves Opened = false
+leaves Kept = false
+leaves (Closed why) = false
+
+abbrev pub rowAfter : Stepped → List ℕ → List ℕ
+rowAfter s row = pick (leaves (s .verdict)) row (numbersOfWatch (s .next))
+
+-- So does a beginning that is refused.
+abbrev pub rowBegun : Begun → List ℕ → List ℕ
+rowBegun b row = pick (eqb (b .number) 0) (numbersOfWatch (b .watch)) row

@@ -1,2 +1,0 @@
-pub mod LawsNumbers
-pub mod KeepsRows
