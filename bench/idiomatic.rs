@@ -4,6 +4,7 @@
 const COPY: usize = 30;
 const HEADER: usize = 28;
 const FRONT: usize = 3 * COPY;
+pub const LARGEST_N: usize = 5_236;
 
 const STEPS: [u16; 256] = {
     let mut steps = [0; 256];
@@ -55,7 +56,7 @@ fn row(header: &[u8]) -> Result<Row, usize> {
     let suits = if fixed {
         count * size == 64_320
     } else {
-        (front + each..=front + each * 5_236).contains(&count) && (count - front) % each == 0
+        (front + each..=front + each * LARGEST_N).contains(&count) && (count - front) % each == 0
     };
     if !suits {
         return Err(7);

@@ -89,10 +89,13 @@ pub struct Draft {
 }
 
 fn pixels(dice: &mut Dice) -> usize {
+    const ONE_LESS: usize = LARGEST_N - 1;
+    const TWO_LESS: usize = LARGEST_N - 2;
     match dice.below(20) {
         0..=8 => dice.between(1, 40),
         9..=11 => dice.pick(&[
-            1, 2, 3, 4, 519, 520, 521, 522, 531, 532, 533, 534, 697, 698, 699, 700, 701, 5_234, 5_235, 5_236,
+            1, 2, 3, 4, 519, 520, 521, 522, 531, 532, 533, 534, 697, 698, 699, 700, 701, TWO_LESS, ONE_LESS,
+            LARGEST_N,
         ]),
         12..=14 => dice.between(500, 720),
         15..=18 => dice.between(1, 1_500),

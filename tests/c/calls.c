@@ -23,6 +23,8 @@ static void told(const char *what)
 
 /* ---- the format once more, plain and slow --------------------------------------------------------------------------------------- */
 
+#define MOST_FIELD (RAHMISVE_MOST_BYTES - RAHMISVE_AROUND) /* bytes of the longest field */
+
 static unsigned crc(const uint8_t *bytes, size_t n)
 {
     unsigned long reg = 0xFFFF;
@@ -125,7 +127,7 @@ static void check_word(void)
     stir_bytes(bytes_here, 30000);
     for (size_t n = 0; n < 300; n++)
         IS(rahmisve_check_word(bytes_here + n % 16, n) == crc(bytes_here + n % 16, n));
-    IS(rahmisve_check_word(bytes_here + 1, 26260) == crc(bytes_here + 1, 26260));
+    IS(rahmisve_check_word(bytes_here + 1, MOST_FIELD) == crc(bytes_here + 1, MOST_FIELD));
     static uint8_t longer[65536 + 9];
     stir_bytes(longer, sizeof longer);
     IS(rahmisve_check_word(longer, sizeof longer) == crc(longer, sizeof longer));
@@ -227,7 +229,7 @@ static void good_blocks(void)
 {
     there_and_back(240, 8, 8040, 0, 8040);
     there_and_back(1, 10, 68, 1, 2680);
-    there_and_back(1, 10, RAHMISVE_MOST_WORDS, 3, RAHMISVE_MOST_BYTES - RAHMISVE_AROUND);
+    there_and_back(1, 10, RAHMISVE_MOST_WORDS, 3, MOST_FIELD);
     there_and_back(2, 10, 15756, 2, 19696);
     there_and_back(3, 10, 20, 2, 2680);
     there_and_back(10, 10, 20960, 0, 26200);
@@ -376,8 +378,8 @@ static void plans(void)
     memset(h, 0, sizeof h);
     head(h, 240, 8, 8040, 3);
     planned(h, 28, 0, 0, 3, 8, 0, 8040, 8040);
-    head(h, 1, 10, 21008, 2);
-    planned(h, 28, 0, 1, 2, 10, 4, 21008, 26260);
+    head(h, 1, 10, RAHMISVE_MOST_WORDS, 2);
+    planned(h, 28, 0, 1, 2, 10, 4, RAHMISVE_MOST_WORDS, MOST_FIELD);
     head(h, 2, 10, 54, 1);
     planned(h, 28, 0, 2, 1, 10, 3, 54, 2680);
     head(h, 7, 10, 20, 3);
@@ -412,10 +414,11 @@ static void located(const uint8_t *header, size_t length, size_t words, uint32_t
 static void record(void)
 {
     uint8_t h[28];
-    head(h, 1, 10, 21008, 2);
+    size_t part = RAHMISVE_MOST_WORDS / 4;
+    head(h, 1, 10, RAHMISVE_MOST_WORDS, 2);
     for (uint32_t k = 1; k <= 4; k++)
-        located(h, 28, 21008, k, 0, (k - 1) * 5252, 5252);
-    located(h, 28, (size_t)1 << 32, 2, 0, 5252, 5252);
+        located(h, 28, RAHMISVE_MOST_WORDS, k, 0, (k - 1) * part, part);
+    located(h, 28, (size_t)1 << 32, 2, 0, part, part);
     head(h, 2, 10, 54, 2);
     located(h, 28, 60, 3, 0, 36, 18);
     told("record: where each lies, with more words lent than a number of 32 bits holds");

@@ -11,7 +11,7 @@ use independent::check::check_bytes;
 use independent::document::header;
 use independent::inputs::{field, recording, Dice};
 use independent::recording::list;
-use independent::rows::{c_of_n, id_of_block};
+use independent::rows::{c_of_n, id_of_block, LARGEST_N};
 
 /// A block of a scan of `n` pixels, or of the fixed length.
 fn scanned(number: u8, version: u8, n: usize) -> Vec<u8> {
@@ -128,7 +128,7 @@ fn sample() -> Vec<u8> {
 
 /// The blocks of the widest scan, which take the most room.
 fn widest() -> Vec<u8> {
-    (1..=10).flat_map(|number| field(1, &scanned(number, 2, 5_236))).collect()
+    (1..=10).flat_map(|number| field(1, &scanned(number, 2, LARGEST_N))).collect()
 }
 
 fn save(dir: &Path, name: &str, bytes: &[u8]) -> std::io::Result<()> {
