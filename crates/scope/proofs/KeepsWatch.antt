@@ -26,7 +26,7 @@ use Rattle.watch.specs.declared.Verdict.the-variants.{Refused, Stray, Opened, K
 use Rattle.watch.specs.declared.Stepped.{Stepped}
 use Rattle.watch.proofs.LawsTurn.{Turn, refuses, strays, opens, closes, keeps, back, late, broken, complete, turn}
 use Rattle.watch.proofs.KeepsRules as Rules
-use Rattle.rahmisve.specs.Watches.{codeOf}
+use Rattle.c_watch.specs.Watches.{codeOf}
 use Rattle.scope.specs.Notions.{FirstOf}
 use Rattle.scope.specs.Tags.{Says}
 use Rattle.scope.specs.Watch.{atRest, awaiting, refusals, rules, Beginning, Offering}

@@ -11,7 +11,7 @@ use Rattle.tag.specs.Times.{between}
 use Rattle.tag.specs.declared.Tag.{Tag}
 use Rattle.watch.specs.Verdicts.{numberOf}
 use Rattle.watch.specs.Rules.{beginOf, stepOf}
-use Rattle.rahmisve.specs.Watches.{codeOf}
+use Rattle.c_watch.specs.Watches.{codeOf}
 use Rattle.watch.specs.declared.Watch.{Watch}
 use Rattle.scope.specs.Notions.{Reason, _if_, FirstOf}
 use Rattle.scope.specs.Tags.{Says, Bounds, Bad, noTag}
