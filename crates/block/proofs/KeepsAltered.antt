@@ -17,12 +17,11 @@ use Rattle.check_word.specs.Check.{generator}
 use Rattle.check_word.specs.Finds.{Passes}
 use Rattle.check_word.proofs.LawsFinds.{our-check-finds-runs}
 use Rattle.row.specs.Field.{fieldBytes}
-use Rattle.header.specs.Says.{headerLength}
-use Rattle.header.specs.Copies.{copiesLength, copyAt, sameAs}
-use Rattle.header.specs.Agreed.{Agreed}
+use Rattle.copies.specs.Copies.{headerLength, copiesLength, copyAt, sameAs}
+use Rattle.copies.specs.Agreed.{Agreed}
+use Rattle.copies.proofs.LawsSame.{same-refl, same-equal}
+use Rattle.copies.proofs.LawsAgreed.{copy-bytes}
 use Rattle.header.specs.Asks.{Asks}
-use Rattle.header.proofs.LawsSame.{same-refl, same-equal}
-use Rattle.header.proofs.LawsAgreed.{copy-bytes}
 use Rattle.block.specs.Layout.{blockLength}
 use Rattle.block.specs.Answers.{refusedAnswer, answerOf, roomAfter}
 use Rattle.block.specs.Meets.{Meets}

@@ -10,10 +10,9 @@ use Rattle.ground.specs.Choice.{pick}
 use Rattle.ground.specs.Grounds.{firstOf}
 use Rattle.ground.proofs.LawsGrounds.{refuses, none-first, exactly}
 use Rattle.bits.specs.Bits.{Below}
-use Rattle.header.specs.Says.{headerLength}
-use Rattle.header.specs.Copies.{headerIn, copiesGrounds}
-use Rattle.header.specs.Agreed.{Agreed}
-use Rattle.header.proofs.LawsAgreed.{agreed-none}
+use Rattle.copies.specs.Copies.{headerLength, headerIn, copiesGrounds}
+use Rattle.copies.specs.Agreed.{Agreed}
+use Rattle.copies.proofs.LawsAgreed.{agreed-none}
 use Rattle.block.specs.Grounds.{groundsBy, refusalBy}
 use Rattle.block.specs.Answers.{refusedJudged, acceptedJudged, judgedBy, wordsLaid, roomBy, refusedAnswer, acceptedAnswer, answerOf}
 use Rattle.block.specs.Promises.{JudgesInOrder, ReadsByCommon}

@@ -14,10 +14,9 @@ use borrow.Author.Tests.{eqb-true, eqb-false}
 use Rattle.bits.specs.Bits.{Below}
 use Rattle.check_word.specs.Check.{generator}
 use Rattle.check_word.specs.Finds.{Passes}
-use Rattle.header.specs.Says.{headerLength}
-use Rattle.header.specs.Copies.{copiesLength, copyAt}
-use Rattle.header.specs.Agreed.{Agreed}
-use Rattle.header.proofs.LawsAgreed.{agreed-none}
+use Rattle.copies.specs.Copies.{headerLength, copiesLength, copyAt}
+use Rattle.copies.specs.Agreed.{Agreed}
+use Rattle.copies.proofs.LawsAgreed.{agreed-none}
 use Rattle.block.specs.declared.Answer.{Answer}
 use Rattle.block.specs.declared.Judged.{Judged}
 use Rattle.block.specs.Grounds.{refusalBy}

@@ -20,11 +20,11 @@ use Rattle.check_word.specs.Finds.{Passes}
 use Rattle.check_word.proofs.LawsPasses.{passes-true, true-passes}
 use Rattle.row.specs.Field.{fieldBytes}
 use Rattle.row.proofs.LawsField.{bits-whole, fields-even, words-at-most}
+use Rattle.copies.specs.Copies.{copiesLength, copyAt, tooShort, noCopyPasses, headerIn, copiesGrounds}
+use Rattle.copies.proofs.LawsAgreed.{copy-bytes, none-passes, passes-none}
 use Rattle.header.specs.Says.{blockIn, wordsIn, bytesIn}
-use Rattle.header.specs.Copies.{copiesLength, copyAt, tooShort, noCopyPasses, headerIn, copiesGrounds}
 use Rattle.header.specs.Plans.{headerGrounds}
 use Rattle.header.proofs.LawsAsks.{none-asks}
-use Rattle.header.proofs.LawsAgreed.{copy-bytes, none-passes, passes-none}
 use Rattle.block.specs.declared.Answer.{Answer}
 use Rattle.block.specs.Layout.{informationField}
 use Rattle.block.specs.Grounds.{wrongLength, offBoundary, smallRoom, groundsOf, refusalOf}

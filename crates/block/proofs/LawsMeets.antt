@@ -20,12 +20,12 @@ use Rattle.check_word.specs.Finds.{Passes}
 use Rattle.check_word.proofs.LawsPasses.{passes-true, true-passes}
 use Rattle.row.specs.Field.{fieldBytes}
 use Rattle.row.proofs.LawsField.{fields-even}
-use Rattle.header.specs.Says.{headerLength, blockIn, sizeIn, wordsIn, versionIn, bytesIn}
-use Rattle.header.specs.Copies.{copiesLength, commonIn, headerIn, copiesGrounds}
+use Rattle.copies.specs.Copies.{headerLength, copiesLength, commonIn, headerIn, copiesGrounds}
+use Rattle.copies.specs.Agreed.{Agreed}
+use Rattle.copies.proofs.LawsAgreed.{none-agreed, agreed-none}
+use Rattle.header.specs.Says.{blockIn, sizeIn, wordsIn, versionIn, bytesIn}
 use Rattle.header.specs.Plans.{headerGrounds}
-use Rattle.header.specs.Agreed.{Agreed}
 use Rattle.header.specs.Asks.{Asks}
-use Rattle.header.proofs.LawsAgreed.{none-agreed, agreed-none}
 use Rattle.header.proofs.LawsAsks.{none-asks, asks-none, asked-block, asked-words}
 use Rattle.block.specs.Layout.{blockLength, informationField}
 use Rattle.block.specs.Grounds.{wrongLength, offBoundary, smallRoom, checkDisagrees, fillNotZero, fieldBy, groundsOf}

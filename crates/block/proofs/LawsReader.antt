@@ -17,13 +17,13 @@ use Rattle.ground.proofs.LawsGrounds.{none-first, first-none, first-then, accep
 use Rattle.bits.specs.Fields.{wordsOf, badSize, fit, takeAnswer, roomTaken}
 use Rattle.check_word.specs.Check.{passes}
 use Rattle.row.specs.Promises.{Held}
-use Rattle.header.specs.declared.Common.{Common}
+use Rattle.copies.specs.declared.Common.{Common}
+use Rattle.copies.specs.Copies.{headerLength, copyLength, copiesLength, copyAt, common, commonIn, headerIn, copiesGrounds, foundCommon, commonOf}
+use Rattle.copies.proofs.LawsAgreed.{copy-long}
+use Rattle.copies.proofs.KeepsCopies.{common-number, common-found}
 use Rattle.header.specs.declared.Plan.{Plan}
-use Rattle.header.specs.Says.{headerLength, wordsIn, bytesIn}
-use Rattle.header.specs.Copies.{copyLength, copiesLength, copyAt, common, commonIn, headerIn, copiesGrounds, foundCommon, commonOf}
+use Rattle.header.specs.Says.{wordsIn, bytesIn}
 use Rattle.header.specs.Plans.{headerGrounds, grantedPlan, planOf}
-use Rattle.header.proofs.LawsAgreed.{copy-long}
-use Rattle.header.proofs.KeepsHeader.{common-number, common-found}
 use Rattle.header.proofs.LawsThen.{header-decides, others-decide, plan-is, plan-held}
 use Rattle.block.specs.declared.Answer.{Answer}
 use Rattle.block.specs.declared.Judged.{Judged}

@@ -7,9 +7,9 @@ use lib.Dec.{eqb}
 use lib.ListN.{length, drop, replicate}
 use Rattle.ground.specs.Choice.{pick}
 use Rattle.bits.specs.Fields.{wordsOf}
-use Rattle.header.specs.declared.Common.{Common}
-use Rattle.header.specs.Says.{headerLength, sizeIn, wordsIn, bytesIn}
-use Rattle.header.specs.Copies.{copyAt, headerIn, foundCommon}
+use Rattle.copies.specs.declared.Common.{Common}
+use Rattle.copies.specs.Copies.{headerLength, copyAt, headerIn, foundCommon}
+use Rattle.header.specs.Says.{sizeIn, wordsIn, bytesIn}
 use Rattle.block.specs.declared.Answer.{Answer}
 use Rattle.block.specs.declared.Judged.{Judged}
 use Rattle.block.specs.Layout.{informationField}

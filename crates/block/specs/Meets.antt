@@ -8,9 +8,8 @@ use Rattle.bits.specs.Bits.{sent}
 use Rattle.check_word.specs.Check.{generator}
 use Rattle.check_word.specs.Finds.{Passes}
 use Rattle.row.specs.Field.{fieldBytes}
-use Rattle.header.specs.Says.{headerLength}
-use Rattle.header.specs.Copies.{copiesLength}
-use Rattle.header.specs.Agreed.{Agreed}
+use Rattle.copies.specs.Copies.{headerLength, copiesLength}
+use Rattle.copies.specs.Agreed.{Agreed}
 use Rattle.header.specs.Asks.{Asks}
 use Rattle.block.specs.Layout.{blockLength, informationField}
 

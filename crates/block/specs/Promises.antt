@@ -14,9 +14,8 @@ use Rattle.check_word.specs.Check.{generator}
 use Rattle.check_word.specs.Finds.{Passes}
 use Rattle.row.specs.Field.{fieldBytes, fillBits}
 use Rattle.row.specs.Promises.{mostWords}
-use Rattle.header.specs.Says.{headerLength}
-use Rattle.header.specs.Copies.{copiesLength, copyAt, headerIn}
-use Rattle.header.specs.Agreed.{ThreeEqual, Agreed, NoneAgreed}
+use Rattle.copies.specs.Copies.{headerLength, copiesLength, copyAt, headerIn}
+use Rattle.copies.specs.Agreed.{ThreeEqual, Agreed, NoneAgreed}
 use Rattle.block.specs.Layout.{informationField}
 use Rattle.block.specs.Grounds.{groundsBy, groundsOf}
 use Rattle.block.specs.Answers.{refusedJudged, judgedBy, roomBy, refusedAnswer, answerOf, roomAfter}

@@ -6,11 +6,11 @@ ghost use lib.ListN.{length, drop};
 ghost use Rattle.ground.specs.Grounds.{firstOf};
 ghost use Rattle.bits.specs.Fields.{wordsOf};
 ghost use Rattle.row.specs.Promises.{longestField, Held};
-ghost use Rattle.header.specs.Copies.{copiesLength};
+ghost use Rattle.copies.specs.Copies.{copiesLength};
 ghost use Rattle.block.specs.Layout.{blockLength, informationField};
 ghost use Rattle.block.specs.Grounds.{wrongLength, offBoundary, smallRoom, checkDisagrees, fillNotZero, fieldGrounds};
 use check_word::CHECK_BYTES;
-use header::COPIES_BYTES;
+use copies::COPIES_BYTES;
 use header::Plan;
 
 fn wrong_length(block: &[u8], bytes: usize) -> bool

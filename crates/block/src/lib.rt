@@ -3,7 +3,7 @@
 ghost use mathlib.Core.Path.{_≡_};
 ghost use lib.ListN.{length};
 ghost use Rattle.block.specs.Answers.{judgedBy, roomBy, refusedAnswer, answerWith, answerOf, roomAfter};
-use header::Common;
+use copies::Common;
 
 mod field;
 
@@ -82,7 +82,7 @@ pub fn read(block: &[u8], room: &mut [u16]) -> Answer
     ensures { λ r. ⌜ r ≡ answerOf (now (block .entry)) (length (now (room .entry))) ⌝ }
     ensures { λ r. ⌜ now (room .exit) ≡ roomAfter (now (block .entry)) (now (room .entry)) ⌝ }
 {
-    let common = header::common_copy(block);
+    let common = copies::common_copy(block);
     if common.number != ground::ACCEPTED {
         return refused(common.number);
     }

@@ -1,4 +1,4 @@
--- The promises of the header: both answers go by the first ground that holds, and none holds exactly where the facts do.
+-- The promises of the header: its plan goes by the first ground that holds, and none holds exactly where it asks for a block.
 -- Assumes nothing.
 use Prim.Native.Nat.{ℕ, _≤_}
 use mathlib.Core.Path.{_≡_, refl, sym, _∙_}
@@ -11,56 +11,19 @@ use borrow.Author.Tests.{eqb-true, not-false}
 use Rattle.ground.specs.Grounds.{firstOf}
 use Rattle.ground.proofs.LawsChoice.{either}
 use Rattle.ground.proofs.LawsGrounds.{accepts, refuses, reads-number, none-first, first-none}
-use Rattle.bits.specs.Bits.{Below}
 use Rattle.row.specs.Rows.{recordsIn, rowOf, permits}
 use Rattle.row.specs.Field.{fieldBits, fieldBytes}
 use Rattle.row.specs.Promises.{longestField, Held}
 use Rattle.row.proofs.LawsRow.{row-records}
 use Rattle.row.proofs.LawsField.{words-held}
-use Rattle.header.specs.declared.Common.{Common}
+use Rattle.copies.specs.Copies.{headerLength}
 use Rattle.header.specs.declared.Plan.{Plan}
-use Rattle.header.specs.Says.{headerLength, numberOf, blockIn, sizeIn, wordsIn, versionIn, bytesIn}
-use Rattle.header.specs.Copies.{copyAt, commonIn, copiesGrounds, foundCommon, refusedCommon, commonOf}
+use Rattle.header.specs.Says.{numberOf, blockIn, sizeIn, wordsIn, versionIn, bytesIn}
 use Rattle.header.specs.Plans.{planGrounds, headerGrounds, grantedPlan, refusedPlan, planOf}
-use Rattle.header.specs.Agreed.{Agreed}
 use Rattle.header.specs.Asks.{Asks}
-use Rattle.header.specs.Promises.{agreedCommon, ReadsCommon, askedPlan, GrantsAsked, WordsInPlace, MarkUnread}
-use Rattle.header.proofs.LawsAgreed.{none-agreed, agreed-none}
+use Rattle.header.specs.Promises.{askedPlan, GrantsAsked, WordsInPlace, MarkUnread}
 use Rattle.header.proofs.LawsPlans.{long-first}
 use Rattle.header.proofs.LawsAsks.{none-asks, asks-none, asked-block, asked-words}
-
--- ---- the copies
-
-module _ (block : List ℕ) where
-  abbrev found : Common
-  found = foundCommon (copyAt 0 block) (copyAt 1 block) (copyAt 2 block)
-
-  pub common-number : commonOf block .number ≡ firstOf (copiesGrounds block)
-  unfolding commonOf
-  common-number = reads-number found refusedCommon (λ (r : Common). r .number) refl (λ n. refl) (firstOf (copiesGrounds block))
-
-  pub common-found : firstOf (copiesGrounds block) ≡ 0 → commonOf block ≡ found
-  unfolding commonOf
-  common-found e = sym (accepts found refusedCommon e)
-
-  common-refused : (commonOf block .number ≡ 0 → ⊥) → commonOf block ≡ refusedCommon (commonOf block .number)
-  unfolding commonOf
-  common-refused f = sym (refuses found refusedCommon (sym common-number) f)
-
-  common-given : (c : List ℕ) → Below 256 block → Agreed block c → commonOf block ≡ agreedCommon block c
-  common-given c b g =
-      let n = agreed-none block b g in
-      common-found (none-first (copiesGrounds block) (n .0)) ∙ (λ i. agreedCommon block (n .1 i))
-
-pub reads-common : ReadsCommon
-reads-common =
-    record {
-      given = common-given;
-      only = λ block b e. (commonIn block, none-agreed block b (first-none (copiesGrounds block) refl (sym (common-number block) ∙ e)));
-      zeros = common-refused;
-    }
-
--- ---- the header
 
 module _ (h : List ℕ) where
   pub plan-number : planOf h .number ≡ firstOf (planGrounds h)

@@ -11,7 +11,8 @@ use Rattle.ground.specs.Grounds.{firstOf, NoneHolds}
 use Rattle.ground.proofs.LawsChoice.{yes, no}
 use Rattle.ground.proofs.LawsTests.{neither}
 use Rattle.row.specs.Rows.{lastBlock, lastVersion, permits}
-use Rattle.header.specs.Says.{headerLength, blockIn, sizeIn, countIn, extraWords, wordsIn, versionIn, rowIn}
+use Rattle.copies.specs.Copies.{headerLength}
+use Rattle.header.specs.Says.{blockIn, sizeIn, countIn, extraWords, wordsIn, versionIn, rowIn}
 use Rattle.header.specs.Plans.{wrongCount, headerGrounds, planGrounds}
 
 pub record Clear (h : List ℕ) : Type 0 where

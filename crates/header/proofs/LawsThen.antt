@@ -12,7 +12,8 @@ use Rattle.ground.specs.Grounds.{Ground, firstOf}
 use Rattle.ground.proofs.LawsChoice.{no}
 use Rattle.ground.proofs.LawsGrounds.{first-then}
 use Rattle.row.specs.Promises.{longestField, Held}
-use Rattle.header.specs.Says.{headerLength, sizeIn, wordsIn, bytesIn}
+use Rattle.copies.specs.Copies.{headerLength}
+use Rattle.header.specs.Says.{sizeIn, wordsIn, bytesIn}
 use Rattle.header.specs.Plans.{planGrounds, planOf, grantedPlan}
 use Rattle.header.specs.declared.Plan.{Plan}
 use Rattle.header.proofs.KeepsHeader.{plan-number, plan-granted, granted-held, plan-short, grants-asked}

@@ -8,8 +8,9 @@ use lib.ListN.{length}
 use Rattle.ground.specs.Choice.{pick}
 use Rattle.ground.specs.Grounds.{Ground, _when_, firstOf}
 use Rattle.row.specs.Rows.{lastBlock, lastVersion, permits}
+use Rattle.copies.specs.Copies.{headerLength}
 use Rattle.header.specs.declared.Plan.{Plan}
-use Rattle.header.specs.Says.{headerLength, blockIn, sizeIn, countIn, extraWords, wordsIn, versionIn, rowIn, bytesIn}
+use Rattle.header.specs.Says.{blockIn, sizeIn, countIn, extraWords, wordsIn, versionIn, rowIn, bytesIn}
 
 -- 4: unknown block id, or block number above 11
 abbrev pub unknownBlock : List ℕ → Bool

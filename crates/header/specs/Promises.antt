@@ -1,31 +1,16 @@
--- What reading the copies and reading a header promise.
+-- What reading a header promises.
 -- Assumes nothing.
 use Prim.Native.Nat.{ℕ, _-_}
 use mathlib.Core.Path.{_≡_}
 use mathlib.Core.List.{List, _∷_}
-use lib.ListN.{length, take, set, replicate}
-use Rattle.bits.specs.Bits.{Below}
-use Rattle.check_word.specs.Check.{passes}
+use lib.ListN.{length, set, replicate}
 use Rattle.row.specs.Rows.{recordsIn}
 use Rattle.row.specs.Field.{fieldBytes}
-use Rattle.header.specs.declared.Common.{Common}
+use Rattle.copies.specs.Copies.{headerLength}
 use Rattle.header.specs.declared.Plan.{Plan}
-use Rattle.header.specs.Says.{headerLength, blockIn, sizeIn, wordsIn, versionIn, validAt}
-use Rattle.header.specs.Copies.{copyAt, commonOf, refusedCommon}
+use Rattle.header.specs.Says.{blockIn, sizeIn, wordsIn, versionIn, validAt}
 use Rattle.header.specs.Plans.{planOf, refusedPlan}
-use Rattle.header.specs.Agreed.{Agreed}
 use Rattle.header.specs.Asks.{Asks}
-
--- the header is that common copy, given back as its first 28 bytes, with which copies passed
-abbrev pub agreedCommon : (block c : List ℕ) → Common
-agreedCommon block c =
-    record { number = 0; header = take headerLength c; first = passes (copyAt 0 block); second = passes (copyAt 1 block); third = passes (copyAt 2 block) }
-
--- the copies of a block, which is bytes, give a header exactly where they agree on one; a refusal is its number and zeros
-pub record ReadsCommon : Type 0 where
-  pub given : (block c : List ℕ) → Below 256 block → Agreed block c → commonOf block ≡ agreedCommon block c
-  pub only : (block : List ℕ) → Below 256 block → commonOf block .number ≡ 0 → (c : List ℕ) × Agreed block c
-  pub zeros : (block : List ℕ) → (commonOf block .number ≡ 0 → ⊥) → commonOf block ≡ refusedCommon (commonOf block .number)
 
 -- the plan of block b, version v, with C words of w bits
 abbrev pub askedPlan : (b v w C : ℕ) → Plan

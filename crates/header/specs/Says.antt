@@ -10,10 +10,6 @@ use Rattle.row.specs.declared.Row.{Row}
 use Rattle.row.specs.Rows.{lastBlock, rowOf}
 use Rattle.row.specs.Field.{fieldBytes}
 
--- a header as it is given back and lent: its first 28 bytes, without the check word
-abbrev pub headerLength : ℕ
-headerLength = 28
-
 -- specification words count from 1
 abbrev pub word : ℕ → List ℕ → ℕ
 word k header = getD header (k - 1) 0

@@ -2,7 +2,7 @@
 ghost use mathlib.Core.Path.{_≡_};
 ghost use lib.ListN.{length};
 ghost use Rattle.ground.specs.Grounds.{firstOf};
-ghost use Rattle.header.specs.Says.{headerLength};
+ghost use Rattle.copies.specs.Copies.{headerLength};
 ghost use Rattle.header.specs.Plans.{unknownBlock, unknownVersion, wrongSize, wrongCount, headerGrounds, refusedPlan, grantedPlan};
 use crate::EXTRA_WORDS;
 use crate::Plan;

@@ -1,7 +1,8 @@
 // What the words of a header say (504-02, Table 3-5).
 ghost use mathlib.Core.Path.{_≡_};
 ghost use lib.ListN.{length};
-ghost use Rattle.header.specs.Says.{headerLength, numberOf, blockIn, countIn, rowIn};
+ghost use Rattle.copies.specs.Copies.{headerLength};
+ghost use Rattle.header.specs.Says.{numberOf, blockIn, countIn, rowIn};
 use row::Row;
 
 // The bytes that hold words 1, 2, 3 with 4, and 8.

@@ -14,7 +14,7 @@ use Rattle.row.proofs.row_of
 use Rattle.row.proofs.scan_of
 use Rattle.row.proofs.permits
 use Rattle.row.proofs.field_bytes
-use Rattle.header.proofs.common_copy
+use Rattle.copies.proofs.common_copy
 use Rattle.header.proofs.plan_of
 use Rattle.block.proofs.read_by
 use Rattle.block.proofs.read
@@ -77,8 +77,9 @@ pub record AllSettled : Type 0 where
   pub scan-of : Settled scan_of.ended scan_of.Reads.Learnt
   pub permits : Settled permits.ended permits.Reads.Learnt
   pub field-bytes : Settled field_bytes.ended field_bytes.Reads.Learnt
-  -- header
+  -- copies
   pub common-copy : Settled common_copy.ended common_copy.Reads.Learnt
+  -- header
   pub plan-of : Settled plan_of.ended plan_of.Reads.Learnt
   -- block
   pub read-by : Settled read_by.ended read_by.Reads.Learnt

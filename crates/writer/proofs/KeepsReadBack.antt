@@ -19,9 +19,9 @@ use Rattle.check_word.specs.Finds.{Passes}
 use Rattle.check_word.proofs.LawsPasses.{true-passes}
 use Rattle.row.specs.Field.{fieldBytes}
 use Rattle.row.proofs.LawsField.{words-held}
-use Rattle.header.specs.Says.{headerLength, wordsIn}
-use Rattle.header.specs.Copies.{copyLength, copiesLength, copyAt, headerIn}
-use Rattle.header.specs.Agreed.{ThreeEqual}
+use Rattle.copies.specs.Copies.{headerLength, copyLength, copiesLength, copyAt, headerIn}
+use Rattle.copies.specs.Agreed.{ThreeEqual}
+use Rattle.header.specs.Says.{wordsIn}
 use Rattle.header.specs.Asks.{Asks}
 use Rattle.block.specs.Layout.{blockLength, informationField}
 use Rattle.block.specs.Answers.{answerOf, roomAfter}

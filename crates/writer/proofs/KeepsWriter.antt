@@ -13,7 +13,8 @@ use Rattle.bits.specs.Bits.{Below}
 use Rattle.bits.specs.Fields.{allFit}
 use Rattle.bits.proofs.LawsFill.{fit-below, below-fit}
 use Rattle.row.specs.Field.{fieldBytes}
-use Rattle.header.specs.Says.{headerLength, blockIn, sizeIn, wordsIn, versionIn, bytesIn}
+use Rattle.copies.specs.Copies.{headerLength}
+use Rattle.header.specs.Says.{blockIn, sizeIn, wordsIn, versionIn, bytesIn}
 use Rattle.header.specs.Plans.{planGrounds}
 use Rattle.header.specs.Asks.{Asks}
 use Rattle.header.proofs.LawsAsks.{none-asks, asks-none, asked-block, asked-words}

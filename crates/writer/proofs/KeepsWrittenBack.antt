@@ -15,11 +15,10 @@ use Rattle.bits.proofs.LawsFields.{length-wordsOf, wordsOf-below, put-taken}
 use Rattle.check_word.specs.Check.{checkLength}
 use Rattle.row.specs.Field.{fieldBytes}
 use Rattle.row.proofs.LawsField.{words-held}
-use Rattle.header.specs.Says.{headerLength}
-use Rattle.header.specs.Copies.{copyLength, copiesLength, copyAt}
+use Rattle.copies.specs.Copies.{headerLength, copyLength, copiesLength, copyAt}
+use Rattle.copies.specs.Agreed.{ThreeEqual}
+use Rattle.copies.proofs.LawsAgreed.{copy-long}
 use Rattle.header.specs.Asks.{Asks}
-use Rattle.header.specs.Agreed.{ThreeEqual}
-use Rattle.header.proofs.LawsAgreed.{copy-long}
 use Rattle.block.specs.Layout.{blockLength, informationField}
 use Rattle.block.specs.Meets.{Meets}
 use Rattle.block.proofs.LawsMeets.{each-fill}

@@ -16,10 +16,9 @@ use Rattle.bits.proofs.LawsWords.{spell-below}
 use Rattle.check_word.specs.Check.{generator, checkBy, checkLength, checkWord, bytesOf}
 use Rattle.check_word.specs.Finds.{Passes}
 use Rattle.check_word.proofs.LawsFeed.{feed-lt}
-use Rattle.header.specs.Says.{headerLength}
-use Rattle.header.specs.Copies.{copyLength, copiesLength, copyAt}
-use Rattle.header.specs.Agreed.{ThreeEqual}
-use Rattle.header.proofs.LawsAgreed.{each}
+use Rattle.copies.specs.Copies.{headerLength, copyLength, copiesLength, copyAt}
+use Rattle.copies.specs.Agreed.{ThreeEqual}
+use Rattle.copies.proofs.LawsAgreed.{each}
 use Rattle.block.specs.Layout.{blockLength}
 use Rattle.writer.specs.Blocks.{sealed, copiesOf, blockOf}
 

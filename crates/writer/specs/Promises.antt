@@ -9,8 +9,8 @@ use lib.ListN.{length, take, drop}
 use Rattle.ground.specs.Grounds.{Ground, firstOf, NoneHolds}
 use Rattle.bits.specs.Bits.{Below}
 use Rattle.row.specs.Field.{fieldBytes}
-use Rattle.header.specs.Says.{headerLength}
-use Rattle.header.specs.Agreed.{ThreeEqual}
+use Rattle.copies.specs.Copies.{headerLength}
+use Rattle.copies.specs.Agreed.{ThreeEqual}
 use Rattle.header.specs.Asks.{Asks}
 use Rattle.block.specs.declared.Answer.{Answer}
 use Rattle.block.specs.Layout.{blockLength}

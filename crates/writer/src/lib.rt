@@ -3,7 +3,7 @@ ghost use mathlib.Core.Path.{_≡_};
 ghost use lib.ListN.{length};
 ghost use Rattle.writer.specs.Answers.{refusedWritten, writtenOf, roomWritten};
 use check_word::CHECK_BYTES;
-use header::COPIES_BYTES;
+use copies::COPIES_BYTES;
 
 mod parts;
 

@@ -8,13 +8,12 @@ ghost use Rattle.bits.specs.Fields.{putAnswer, fieldPut, allFit};
 ghost use Rattle.check_word.specs.Check.{checkLength, checkWord, bytesOf};
 ghost use Rattle.room.specs.Laid.{laid};
 ghost use Rattle.row.specs.Promises.{Held};
-ghost use Rattle.header.specs.Says.{headerLength};
-ghost use Rattle.header.specs.Copies.{copiesLength};
+ghost use Rattle.copies.specs.Copies.{headerLength, copiesLength};
 ghost use Rattle.block.specs.Layout.{blockLength, informationField};
 ghost use Rattle.writer.specs.Blocks.{sealed, copiesOf, blockOf};
-use header::COPIES_BYTES;
-use header::COPY_BYTES;
-use header::HEADER_BYTES;
+use copies::COPIES_BYTES;
+use copies::COPY_BYTES;
+use copies::HEADER_BYTES;
 
 // The two bytes of a check word, high byte first.
 fn check_bytes(message: &[u8]) -> [u8; 2]

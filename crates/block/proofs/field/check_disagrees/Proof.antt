@@ -7,7 +7,7 @@ use native.Mathlib.Omega.{arith}
 use lib.ListN.{length, drop, length-drop}
 use lib.Seq.{take-all}
 use Rattle.check_word.specs.Check.{passes}
-use Rattle.header.specs.Copies.{copiesLength}
+use Rattle.copies.specs.Copies.{copiesLength}
 use borrow.Author.Needs.{needs}
 use Rattle.block.proofs.field.check_disagrees.Statement.{statement}
 use Rattle.block.proofs.field.check_disagrees.Tie as tie

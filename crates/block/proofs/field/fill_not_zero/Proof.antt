@@ -6,7 +6,7 @@ use mathlib.Core.Bool.{not}
 use native.Mathlib.Omega.{arith}
 use lib.ListN.{take, drop}
 use Rattle.bits.specs.Fields.{fillOf, allZero}
-use Rattle.header.specs.Copies.{copiesLength}
+use Rattle.copies.specs.Copies.{copiesLength}
 use borrow.Author.Needs.{needs}
 use Rattle.block.proofs.field.fill_not_zero.Statement.{statement}
 use Rattle.block.proofs.field.fill_not_zero.Tie as tie

@@ -5,7 +5,7 @@ use mathlib.Core.Path.{_≡_, ap, _∙_}
 use native.Mathlib.Omega.{arith}
 use lib.ListN.{take, drop}
 use Rattle.bits.specs.Fields.{roomTaken}
-use Rattle.header.specs.Copies.{copiesLength}
+use Rattle.copies.specs.Copies.{copiesLength}
 use Rattle.block.specs.Layout.{informationField}
 use Rattle.block.proofs.LawsReader.{field-long, words-taken}
 use borrow.Author.Needs.{needs}

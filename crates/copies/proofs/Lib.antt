@@ -1,0 +1,4 @@
+pub mod LawsSame
+pub mod LawsCopies
+pub mod LawsAgreed
+pub mod KeepsCopies
