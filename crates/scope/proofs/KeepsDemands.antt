@@ -2,26 +2,26 @@
 -- Assumes nothing.
 use Prim.Native.Nat.{ℕ, zero, suc, _+_, _*_, _/_, _%_, _<_, _≤_}
 use mathlib.Core.Path.{_≡_, refl, sym, ap, _∙_, subst}
-use mathlib.Core.Logic.{_⊎_, inl, inr, ⊎-elim, _↔_}
+use mathlib.Core.Logic.{_⊎_, ⊎-elim, _↔_}
 use mathlib.Core.Bool.{Bool, true, false}
 use mathlib.Core.List.{List, [], _∷_, _++_}
 use native.Mathlib.Omega.{arith}
 use lib.Dec.{ltb, lit<}
-use lib.ListN.{length, take, drop, getD, length-drop}
+use lib.ListN.{length, take, drop, getD}
 use borrow.Author.Tests.{ltb-true, ltb-false}
 use Rattle.bits.specs.Bits.{Below, words, sent}
 use Rattle.bits.specs.Runs.{Altered}
 use Rattle.bits.proofs.LawsWords.{length-spell}
 use Rattle.check_word.specs.Check.{generator}
 use Rattle.check_word.specs.Finds.{Passes}
-use Rattle.row.specs.Field.{fieldBits, fieldBytes}
+use Rattle.row.specs.Field.{fieldBytes}
 use Rattle.row.proofs.LawsField.{bits-whole}
-use Rattle.header.specs.Copies.{copyAt}
-use Rattle.header.specs.Agreed.{ThreeEqual}
+use Rattle.copies.specs.Copies.{copyAt}
+use Rattle.copies.specs.Agreed.{ThreeEqual}
 use Rattle.header.specs.Asks.{Asks}
-use Rattle.header.proofs.LawsAgreed.{each}
+use Rattle.copies.proofs.LawsAgreed.{each}
 use Rattle.block.specs.Layout.{informationField}
-use Rattle.block.specs.Answers.{answerOf, roomAfter}
+use Rattle.block.specs.Answers.{answerOf}
 use Rattle.block.specs.Meets as reader
 use Rattle.block.specs.Promises as promises
 use Rattle.block.proofs.LawsReader.{field-long}
@@ -31,10 +31,9 @@ use Rattle.writer.specs.Answers.{writtenBlock}
 use Rattle.writer.proofs.KeepsWriter.{writes-front}
 use Rattle.writer.proofs.KeepsReadBack.{writes-blocks, written-copies, reads-back}
 use Rattle.writer.proofs.KeepsWrittenBack.{writes-back}
-use Rattle.scope.specs.Notions.{bit}
-use Rattle.scope.specs.Blocks.{Agrees, Header, Asked}
+use Rattle.scope.specs.Blocks.{Agrees, Asked}
 use Rattle.scope.specs.Refusals.{readerReasons}
-use Rattle.scope.specs.Demands.{Accepted, Answered, Meets, Reads, Equal, Rewrites, Received, Unchanged, Finds, IsFound, Altering}
+use Rattle.scope.specs.Demands.{Accepted, Answered, Meets, Reads, Equal, Rewrites, Received, Finds, Altering}
 use Rattle.scope.proofs.LawsReasons.{given-once}
 use Rattle.scope.proofs.LawsFormat.{agrees-passes, passes-agrees, agreed-header, header-agreed, bits-field, asked-asks, asks-asked}
 use Rattle.scope.proofs.LawsGrounds.{bit-in-front}

@@ -1,7 +1,7 @@
 -- Records: the plan of a header, where a record lies, and the placement, which is tested at every block, version and record.
 -- Assumes nothing.
 use Prim.Native.Nat.{ℕ, zero, suc, _+_, _-_, _*_, _/_, _<_, _≤_}
-use mathlib.Core.Path.{_≡_, refl, sym, ap, _∙_, subst}
+use mathlib.Core.Path.{_≡_, refl, sym, ap, _∙_}
 use mathlib.Core.List.{List, [], _∷_}
 use native.Mathlib.Omega.{arith}
 use lib.ListN.{length, take, getD}
@@ -12,8 +12,7 @@ use Rattle.header.specs.Says.{blockIn, sizeIn, wordsIn, versionIn}
 use Rattle.header.specs.Plans.{planOf}
 use Rattle.header.proofs.LawsAsks.{asked-block, asked-words}
 use Rattle.header.proofs.KeepsHeader.{grants-asked}
-use Rattle.records.specs.declared.Part.{Part}
-use Rattle.records.specs.Records.{recordsOf, recordLength, partOf, joinedTo}
+use Rattle.records.specs.Records.{recordsOf, recordLength, joinedTo}
 use Rattle.records.proofs.KeepsRecords.{finds, joins-to-words, evenly-shared}
 use Rattle.placement.specs.Placement.{recordsHeld, heldIn, placeOf}
 use Rattle.placement.proofs.KeepsPlacement.{every-version}

@@ -1,17 +1,16 @@
 -- Each number is that of the first of its reasons, since each test of the code tells its reason; and a refusal's zeros are the crates' own.
 -- Assumes nothing.
-use Prim.Native.Nat.{ℕ, zero, suc, _+_, _^_, _/_, _<_, _≤_}
+use Prim.Native.Nat.{ℕ, suc, _+_, _^_, _/_, _<_, _≤_}
 use mathlib.Core.Path.{_≡_, refl, sym, ap, _∙_, subst}
 use mathlib.Core.Logic.{_⊎_, _↔_}
 use mathlib.Core.Bool.{Bool, true, false, not, _&&_, _||_}
 use mathlib.Core.List.{List, [], _∷_, _++_}
 use native.Mathlib.Omega.{arith}
-use lib.Dec.{eqb, ltb, lit≤}
-use lib.ListN.{length, getD, replicate}
+use lib.Dec.{eqb, ltb}
+use lib.ListN.{length, getD}
 use lib.Pow.{pow-pos}
 use borrow.Author.Tests.{eqb-true, eqb-false, ltb-false, not-true, not-false}
-use Rattle.ground.specs.Choice.{pick}
-use Rattle.ground.specs.Grounds.{Ground, _when_, firstOf, NoneHolds}
+use Rattle.ground.specs.Grounds.{Ground, _when_, firstOf}
 use Rattle.ground.proofs.LawsTests.{never}
 use Rattle.ground.proofs.LawsGrounds.{refuses, reads-number}
 use Rattle.bits.specs.Bits.{Below}
@@ -21,10 +20,11 @@ use Rattle.bits.proofs.LawsFill.{fit-below}
 use Rattle.row.specs.Rows.{recordsIn}
 use Rattle.row.proofs.LawsRow.{row-records}
 use Rattle.header.specs.Says.{blockIn, sizeIn, wordsIn, versionIn, bytesIn}
-use Rattle.header.specs.Copies.{copiesGrounds, headerIn}
-use Rattle.header.specs.Plans.{notHeader, headerGrounds, planGrounds}
+use Rattle.copies.specs.Copies.{copiesGrounds, headerIn}
+use Rattle.header.specs.Plans.{headerGrounds, planGrounds}
 use Rattle.header.proofs.LawsAsks.{none-asks, is-known, asked-block, asked-words}
-use Rattle.header.proofs.KeepsHeader.{common-number, plan-number, reads-common, grants-asked}
+use Rattle.copies.proofs.KeepsCopies.{common-number, reads-common}
+use Rattle.header.proofs.KeepsHeader.{plan-number, grants-asked}
 use Rattle.block.specs.Grounds.{fieldBy, groundsBy, groundsOf}
 use Rattle.block.proofs.KeepsReader.{refuses-in-order, refusal-leaves}
 use Rattle.block.proofs.KeepsJudged.{judges-in-order}
@@ -38,7 +38,7 @@ use Rattle.records.proofs.KeepsRecords as located
 use Rattle.placement.specs.declared.Placed.{Placed}
 use Rattle.placement.specs.Placement.{recordsHeld, noRecord, groundOf, refusedBy, placeOf}
 use Rattle.placement.proofs.KeepsPlacement.{counts}
-use Rattle.scope.specs.Notions.{Reason, _if_, FirstOf}
+use Rattle.scope.specs.Notions.{Reason, FirstOf}
 use Rattle.scope.specs.Blocks.{Asked}
 use Rattle.scope.specs.Records.{RecordsIn, zeroth, first, second, others, last}
 use Rattle.scope.specs.Refusals.{headerReasons, planReasons, Said, copiesReasons, fieldReasons, readerReasons, wordReasons, recordReasons, placeReasons, Numbers, Refusals}

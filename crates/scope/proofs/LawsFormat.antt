@@ -1,6 +1,6 @@
 -- The format as the statements have it, and as the crates' laws have it: each says what the other does.
 -- Assumes nothing.
-use Prim.Native.Nat.{ℕ, _+_, _*_, _/_, _%_, _<_, _≤_, max}
+use Prim.Native.Nat.{ℕ, _*_, _/_, _%_, _<_, _≤_, max}
 use mathlib.Core.Path.{_≡_, refl, sym, ap, _∙_, subst}
 use mathlib.Core.Bool.{Bool, true, false, _||_}
 use mathlib.Core.List.{List}
@@ -8,21 +8,21 @@ use native.Mathlib.Omega.{arith}
 use lib.Dec.{lit<, eqb}
 use lib.ListN.{length, take}
 use borrow.Author.Tests.{ne-eqb, eqb-true, eqb-false}
-use Rattle.ground.proofs.LawsChoice.{no, either}
+use Rattle.ground.proofs.LawsChoice.{no}
 use Rattle.check_word.specs.Check.{generator}
 use Rattle.check_word.specs.Finds.{Passes}
 use Rattle.row.specs.Pixels.{imageSize}
 use Rattle.row.specs.Rows.{fixedBits}
 use Rattle.row.specs.Field.{upTo16, fieldBits, fieldBytes}
 use Rattle.row.proofs.LawsField.{bits-whole}
-use Rattle.header.specs.Says.{headerLength, blockIn, sizeIn, wordsIn, versionIn, bytesIn}
-use Rattle.header.specs.Copies.{copyAt, commonIn, headerIn}
-use Rattle.header.specs.Agreed.{Agreed}
+use Rattle.header.specs.Says.{bytesIn}
+use Rattle.copies.specs.Copies.{copyAt}
+use Rattle.copies.specs.Agreed.{Agreed}
 use Rattle.header.specs.Asks.{Asks}
-use Rattle.header.proofs.LawsAgreed.{each}
-use Rattle.header.proofs.LawsAsks.{is-number, is-known, asked-block, asked-words}
-use Rattle.scope.specs.Sizes.{RoundedUp, FieldBits, zeroth, lines, last}
-use Rattle.scope.specs.Blocks.{Agrees, Copy, first, second, third, Passing, Header, Asked}
+use Rattle.copies.proofs.LawsAgreed.{each}
+use Rattle.header.proofs.LawsAsks.{is-known, asked-block, asked-words}
+use Rattle.scope.specs.Sizes.{FieldBits, zeroth, lines, last}
+use Rattle.scope.specs.Blocks.{Agrees, Copy, first, second, third, Header, Asked}
 
 -- ---- the check, the copies, the header
 

@@ -1,6 +1,6 @@
 -- The tests of the code tell the reasons of the statements: those of the copies, of a header, of a field.
 -- Assumes nothing.
-use Prim.Native.Nat.{ℕ, zero, suc, _+_, _-_, _*_, _/_, _%_, _<_, _≤_}
+use Prim.Native.Nat.{ℕ, zero, suc, _+_, _*_, _/_, _%_, _<_, _≤_}
 use mathlib.Core.Path.{_≡_, refl, sym, ap, _∙_, subst}
 use mathlib.Core.Logic.{_⊎_, inl, inr, ⊎-elim, _↔_}
 use mathlib.Core.Bool.{Bool, true, false, not, _&&_, _||_}
@@ -9,8 +9,8 @@ use native.Mathlib.Omega.{arith}
 use lib.Dec.{eqb, ltb, lit<, lit≤}
 use lib.ListN.{length, take, drop, getD, take-append-drop, length-drop}
 use lib.Seq.{getD-drop}
-use borrow.Author.Tests.{eqb-true, eqb-false, eq-eqb, ltb-true, ltb-false, le-ltb, not-true, not-false}
-use Rattle.ground.specs.Grounds.{Ground, _when_, firstOf, NoneHolds}
+use borrow.Author.Tests.{eqb-true, eqb-false, ltb-true, ltb-false, le-ltb, not-true, not-false}
+use Rattle.ground.specs.Grounds.{NoneHolds}
 use Rattle.ground.proofs.LawsTests.{never, split}
 use Rattle.bits.specs.Bits.{Below, sent}
 use Rattle.bits.specs.Fields.{allZero, fillOf}
@@ -22,19 +22,19 @@ use Rattle.check_word.proofs.LawsPasses.{passes-true, true-passes}
 use Rattle.row.specs.Rows.{rowOf, permits}
 use Rattle.row.specs.Suits.{Scan, Suits, zeroth, first, second, others, last6, last8, last10}
 use Rattle.row.proofs.LawsRow.{row-cases, suits-takes}
-use Rattle.header.specs.Says.{headerLength, blockIn, sizeIn, countIn, wordsIn, versionIn, rowIn, bytesIn}
-use Rattle.header.specs.Copies.{copyAt, sameAs, differ, tooShort, noCopyPasses, copiesDiffer, copiesGrounds, commonIn, headerIn}
+use Rattle.header.specs.Says.{blockIn, sizeIn, countIn, wordsIn, versionIn, rowIn, bytesIn}
+use Rattle.copies.specs.Copies.{copyAt, sameAs, differ, noCopyPasses, copiesDiffer, copiesGrounds, headerIn}
 use Rattle.header.specs.Plans.{unknownBlock, unknownVersion, wrongSize, wrongCount, headerGrounds}
 use Rattle.header.specs.Asks.{IsBlock}
-use Rattle.header.proofs.LawsAgreed.{all-equal, copy-bytes, none-passes, passes-none, none-agreed, agreed-none}
-use Rattle.header.proofs.LawsSame.{same-refl}
+use Rattle.copies.proofs.LawsAgreed.{all-equal, copy-bytes, none-passes, passes-none, none-agreed, agreed-none}
+use Rattle.copies.proofs.LawsSame.{same-refl}
 use Rattle.header.proofs.LawsAsks.{is-number, is-known, number-is, none-asks, asked-words}
 use Rattle.block.specs.Layout.{informationField}
 use Rattle.block.specs.Grounds.{wrongLength, offBoundary, smallRoom, checkDisagrees, fillNotZero, fieldBy}
 use Rattle.block.proofs.LawsReader.{field-long}
 use Rattle.block.proofs.LawsMeets.{fill-each}
-use Rattle.scope.specs.Notions.{Reason, _if_, word, bit}
-use Rattle.scope.specs.Blocks.{Agrees, Passing, Header, Asked}
+use Rattle.scope.specs.Notions.{word, bit}
+use Rattle.scope.specs.Blocks.{Agrees, Passing, Asked}
 use Rattle.scope.specs.Refusals.{UnknownBlock, UnknownVersion, WrongSize, WrongCount, headerReasons, Said, copiesReasons, fieldReasons}
 use Rattle.scope.proofs.LawsReasons.{Tells, told-as, tells-eq, tells-less, tells-not, AllTell}
 use Rattle.scope.proofs.LawsFormat.{agrees-passes, passes-agrees, copy-place, place-copy, agreed-header, header-agreed, asked-asks, asked-field, asked-whole}

@@ -5,7 +5,7 @@ use mathlib.Core.Path.{_≡_}
 use mathlib.Core.Logic.{_⊎_, _↔_}
 use mathlib.Core.Bool.{true}
 use mathlib.Core.List.{List, _++_}
-use lib.ListN.{length, take, drop, set}
+use lib.ListN.{length, take, drop}
 use Rattle.bits.specs.Bits.{Below, words, sent}
 use Rattle.bits.specs.Runs.{Altered}
 use Rattle.block.specs.Answers.{answerOf, roomAfter}

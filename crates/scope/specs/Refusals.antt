@@ -9,7 +9,7 @@ use lib.ListN.{length, drop, getD, replicate}
 use Rattle.bits.specs.Bits.{Below}
 use Rattle.row.specs.Suits.{Suits}
 use Rattle.header.specs.Asks.{IsBlock}
-use Rattle.header.specs.Copies.{commonOf}
+use Rattle.copies.specs.Copies.{commonOf}
 use Rattle.header.specs.Plans.{planOf}
 use Rattle.block.specs.Answers.{judgedBy, roomBy, answerOf, roomAfter}
 use Rattle.writer.specs.Answers.{writtenOf, roomWritten}
