@@ -182,13 +182,23 @@ is-tag s t y b =
 abbrev number-read : TagRead → ℕ
 number-read r = r .number
 
+good-is-tag : (s : List ℕ) → goodTag s ≡ true → IsTag s
+good-is-tag s g = Kept.reading .only s (ap number-read (reads s g))
+
 pub tells-bad : (s : List ℕ) → Tells (not (goodTag s)) (Bad s)
 tells-bad s = record {
   yes = λ e t y b. never (sym (not-true (goodTag s) e) ∙ Kept.good s (is-tag s t y b));
   no = λ e bad.
       let g : goodTag s ≡ true = not-false (goodTag s) e in
-      bad (tagOf s) (says-it s (Kept.reading .only s (ap number-read (reads s g)))) (bounds (tagOf s) .0 (good-bounds s g));
+      bad (tagOf s) (says-it s (good-is-tag s g)) (bounds (tagOf s) .0 (good-bounds s g));
 }
+
+pub is-tag-unless-bad : (s : List ℕ) → (Bad s → ⊥) → IsTag s
+is-tag-unless-bad s n = by (goodTag s) refl (tells-bad s)
+  where
+    by : (t : Bool) → goodTag s ≡ t → Tells (not t) (Bad s) → IsTag s
+    by true e k = good-is-tag s e
+    by false e k = absurd (n (k .yes refl))
 
 taken : (s : List ℕ) → readTag s .number ≡ 0 → Says s (readTag s .tag)
 taken s h =

@@ -4,7 +4,7 @@
 use Prim.Native.Nat.{ℕ, zero, suc, _+_, _≤_}
 use mathlib.Core.Path.{_≡_, refl, sym, ap, _∙_, subst}
 use mathlib.Core.Logic.{inl}
-use mathlib.Core.Bool.{Bool, false, not}
+use mathlib.Core.Bool.{Bool, true, false, not}
 use mathlib.Core.List.{List}
 use native.Mathlib.Omega.{arith}
 use lib.Dec.{T, eqb}
@@ -16,22 +16,25 @@ use Rattle.ground.proofs.LawsTests.{never}
 use Rattle.tag.specs.Tags.{tagOf, goodTag}
 use Rattle.tag.specs.Times.{between}
 use Rattle.tag.specs.declared.Tag.{Tag}
-use Rattle.watch.specs.Verdicts.{numberOf}
+use Rattle.watch.specs.Verdicts.{numberOf, completes}
 use Rattle.watch.specs.Bounds.{grounds, refusalOf}
 use Rattle.watch.specs.Rules.{stepOf}
+use Rattle.watch.specs.Offers.{verdictOf, after}
 use Rattle.watch.specs.Promises.{Open, InTime}
 use Rattle.watch.specs.declared.Watch.{Watch}
+use Rattle.watch.specs.declared.Closing.the-variants.{ClockBack, Late, Broken, Complete}
 use Rattle.watch.specs.declared.Verdict.{Verdict}
 use Rattle.watch.specs.declared.Verdict.the-variants.{Refused, Stray, Opened, Kept, Closed}
 use Rattle.watch.specs.declared.Stepped.{Stepped}
 use Rattle.watch.proofs.LawsTurn.{Turn, refuses, strays, opens, closes, keeps, back, late, broken, complete, turn}
 use Rattle.watch.proofs.KeepsRules as Rules
+use Rattle.watch.proofs.KeepsScans.{any-offers}
 use Rattle.c_watch.specs.Watches.{codeOf}
 use Rattle.scope.specs.Notions.{FirstOf}
 use Rattle.scope.specs.Tags.{Says}
-use Rattle.scope.specs.Watch.{atRest, awaiting, refusals, rules, Beginning, Offering}
+use Rattle.scope.specs.Watch.{atRest, awaiting, refusals, rules, Beginning, Offering, Scanning}
 use Rattle.scope.proofs.LawsReasons.{Tells, tells-true, tells-eq, tells-less, tells-not, tells-both, tells-either, decided, first-reason}
-use Rattle.scope.proofs.KeepsTags.{says-only, tells-bounds, tells-bad}
+use Rattle.scope.proofs.KeepsTags.{says-only, tells-bounds, tells-bad, is-tag-unless-bad}
 
 pub beginning : Beginning
 beginning = record { taken = Rules.beginning .taken; refused = Rules.beginning .refused }
@@ -154,4 +157,22 @@ offering = record {
       next-is w b s (code w b s) refl ∙ closed w b s (tagOf s) (code w b s) h
       ∙ ap (λ (z : Bool). pick z (awaiting 1 (tagOf s) (w .limit)) (atRest (w .limit))) (ne-eqb b 0 n);
   unread = Rules.one-offer .unread;
+}
+
+-- ---- any offers
+
+is-complete : (v : Verdict) → codeOf v ≡ 7 → completes v ≡ true
+is-complete (Refused n) e = absurd (omega arith)
+is-complete Stray e = absurd (omega arith)
+is-complete Opened e = absurd (omega arith)
+is-complete Kept e = absurd (omega arith)
+is-complete (Closed ClockBack) e = absurd (omega arith)
+is-complete (Closed Late) e = absurd (omega arith)
+is-complete (Closed Broken) e = absurd (omega arith)
+is-complete (Closed Complete) e = refl
+
+pub scanning : Scanning
+scanning = record {
+  completed = λ limit os o e. any-offers .completed limit os o (is-complete (verdictOf (after (atRest limit) os) o) e);
+  whole = λ limit tag l good wait. ap codeOf (any-offers .whole limit tag l (λ k h. is-tag-unless-bad (tag k) (good k h)) wait);
 }

@@ -1,16 +1,18 @@
 -- The scan watch.
 -- Assumes nothing.
-use Prim.Native.Nat.{ℕ, _+_, _≤_, _<_}
+use Prim.Native.Nat.{ℕ, suc, _+_, _≤_, _<_}
 use mathlib.Core.Path.{_≡_}
 use mathlib.Core.Logic.{_⊎_}
 use mathlib.Core.Bool.{true, false}
 use mathlib.Core.List.{List, [], _∷_}
 use lib.IntN.{pos}
-use lib.Signed.{_<ℤ_}
-use Rattle.tag.specs.Times.{between}
+use lib.Signed.{_≤ℤ_, _<ℤ_}
+use Rattle.tag.specs.Times.{between, elapsedOf}
 use Rattle.tag.specs.declared.Tag.{Tag}
 use Rattle.watch.specs.Verdicts.{numberOf}
 use Rattle.watch.specs.Rules.{beginOf, stepOf}
+use Rattle.watch.specs.Offers.{Offer, verdictOf, after, offerOf, blocksBefore}
+use Rattle.watch.specs.Promises.{Scan}
 use Rattle.c_watch.specs.Watches.{codeOf}
 use Rattle.watch.specs.declared.Watch.{Watch}
 use Rattle.scope.specs.Notions.{Reason, _if_, FirstOf}
@@ -70,3 +72,12 @@ pub record Offering : Type 0 where
   -- In a lent idle record they aren't read.
   pub unread : (v w : Watch) (b : ℕ) (s : List ℕ) → v .opened ≡ false → w .opened ≡ false → v .limit ≡ w .limit
       → stepOf v b s .verdict ≡ stepOf w b s .verdict
+
+-- Over any offers to a watch begun idle, refused ones among them, a completed scan's elapsed time (tag of its block 0 to tag of its block 10)
+-- is from 0 to ten times the limit; and a scan whose blocks 0 to 10 are offered in order, each from 0 to the limit after the one before it, is
+-- completed.
+pub record Scanning : Type 0 where
+  pub completed : (limit : ℕ) (os : List Offer) (o : Offer) → codeOf (verdictOf (after (atRest limit) os) o) ≡ 7 → Scan limit os o
+  pub whole : (limit : ℕ) (tag : ℕ → List ℕ) → limit ≤ 3600000 → ((k : ℕ) → k ≤ 10 → Bad (tag k) → ⊥)
+      → ((k : ℕ) → k < 10 → (pos 0 ≤ℤ elapsedOf (tag k) (tag (suc k)) .ms) × (elapsedOf (tag k) (tag (suc k)) .ms ≤ℤ pos limit))
+      → codeOf (verdictOf (after (atRest limit) (blocksBefore 10 tag)) (offerOf tag 10)) ≡ 7
