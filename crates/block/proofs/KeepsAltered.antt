@@ -13,9 +13,9 @@ use Rattle.ground.proofs.LawsTests.{never}
 use Rattle.bits.specs.Bits.{Below, words, sent}
 use Rattle.bits.specs.Runs.{Altered}
 use Rattle.bits.proofs.LawsBelow.{below-drop}
-use Rattle.check_word.specs.Check.{generator}
-use Rattle.check_word.specs.Finds.{Passes}
-use Rattle.check_word.proofs.LawsFinds.{our-check-finds-runs}
+use Rattle.check_rule.specs.Check.{generator}
+use Rattle.check_rule.specs.Finds.{Passes}
+use Rattle.check_rule.proofs.LawsFinds.{our-check-finds-runs}
 use Rattle.row.specs.Field.{fieldBytes}
 use Rattle.copies.specs.Copies.{headerLength, copiesLength, copyAt, sameAs}
 use Rattle.copies.specs.Agreed.{Agreed}

@@ -12,8 +12,8 @@ use lib.ListN.{length, take, drop, getD, set, length-set, length-drop}
 use lib.Seq.{getD-set-other}
 use borrow.Author.Tests.{eqb-true, eqb-false}
 use Rattle.bits.specs.Bits.{Below}
-use Rattle.check_word.specs.Check.{generator}
-use Rattle.check_word.specs.Finds.{Passes}
+use Rattle.check_rule.specs.Check.{generator}
+use Rattle.check_rule.specs.Finds.{Passes}
 use Rattle.copies.specs.Copies.{headerLength, copiesLength, copyAt}
 use Rattle.copies.specs.Agreed.{Agreed}
 use Rattle.copies.proofs.LawsAgreed.{agreed-none}

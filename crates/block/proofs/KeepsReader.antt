@@ -15,9 +15,9 @@ use Rattle.ground.proofs.LawsGrounds.{accepts, refuses, reads-number, none-firs
 use Rattle.bits.specs.Bits.{Below, spell, words, sent}
 use Rattle.bits.specs.Fields.{wordsOf, fillOf}
 use Rattle.bits.proofs.LawsWords.{length-spell, words-spell}
-use Rattle.check_word.specs.Check.{generator, passes}
-use Rattle.check_word.specs.Finds.{Passes}
-use Rattle.check_word.proofs.LawsPasses.{passes-true, true-passes}
+use Rattle.check_rule.specs.Check.{generator, passes}
+use Rattle.check_rule.specs.Finds.{Passes}
+use Rattle.check_rule.proofs.LawsPasses.{passes-true, true-passes}
 use Rattle.row.specs.Field.{fieldBytes}
 use Rattle.row.proofs.LawsField.{bits-whole, fields-even, words-at-most}
 use Rattle.copies.specs.Copies.{copiesLength, copyAt, tooShort, noCopyPasses, headerIn, copiesGrounds}

@@ -15,9 +15,9 @@ use Rattle.ground.proofs.LawsGrounds.{none-append, none-split, first-is}
 use Rattle.bits.specs.Bits.{Below, sent}
 use Rattle.bits.specs.Fields.{fillOf, allZero}
 use Rattle.bits.proofs.LawsBelow.{below-drop}
-use Rattle.check_word.specs.Check.{generator, passes}
-use Rattle.check_word.specs.Finds.{Passes}
-use Rattle.check_word.proofs.LawsPasses.{passes-true, true-passes}
+use Rattle.check_rule.specs.Check.{generator, passes}
+use Rattle.check_rule.specs.Finds.{Passes}
+use Rattle.check_rule.proofs.LawsPasses.{passes-true, true-passes}
 use Rattle.row.specs.Field.{fieldBytes}
 use Rattle.row.proofs.LawsField.{fields-even}
 use Rattle.copies.specs.Copies.{headerLength, copiesLength, commonIn, headerIn, copiesGrounds}

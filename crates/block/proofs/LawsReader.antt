@@ -15,7 +15,7 @@ use Rattle.ground.specs.Grounds.{_when_, firstOf}
 use Rattle.ground.proofs.LawsChoice.{no, either}
 use Rattle.ground.proofs.LawsGrounds.{none-first, first-none, first-then, accepts, refuses, reads-number}
 use Rattle.bits.specs.Fields.{wordsOf, badSize, fit, takeAnswer, roomTaken}
-use Rattle.check_word.specs.Check.{passes}
+use Rattle.check_rule.specs.Check.{passes}
 use Rattle.row.specs.Promises.{Held}
 use Rattle.copies.specs.declared.Common.{Common}
 use Rattle.copies.specs.Copies.{headerLength, copyLength, copiesLength, copyAt, common, commonIn, headerIn, copiesGrounds, foundCommon, commonOf}

@@ -7,7 +7,7 @@ use lib.Dec.{eqb, ltb}
 use lib.ListN.{length, drop}
 use Rattle.ground.specs.Grounds.{Ground, _when_, firstOf}
 use Rattle.bits.specs.Fields.{fillOf, allZero}
-use Rattle.check_word.specs.Check.{passes}
+use Rattle.check_rule.specs.Check.{passes}
 use Rattle.copies.specs.Copies.{copiesLength, headerIn, copiesGrounds}
 use Rattle.header.specs.Says.{sizeIn, wordsIn, bytesIn}
 use Rattle.header.specs.Plans.{headerGrounds, planGrounds}

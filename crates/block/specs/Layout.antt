@@ -3,7 +3,7 @@
 use Prim.Native.Nat.{ℕ, _+_}
 use mathlib.Core.List.{List}
 use lib.ListN.{take, drop}
-use Rattle.check_word.specs.Check.{checkLength}
+use Rattle.check_rule.specs.Check.{checkLength}
 use Rattle.copies.specs.Copies.{copiesLength}
 
 -- of a block whose field has so many bytes

@@ -5,8 +5,8 @@ use mathlib.Core.Path.{_≡_}
 use mathlib.Core.List.{List}
 use lib.ListN.{length, take, drop, getD}
 use Rattle.bits.specs.Bits.{sent}
-use Rattle.check_word.specs.Check.{generator}
-use Rattle.check_word.specs.Finds.{Passes}
+use Rattle.check_rule.specs.Check.{generator}
+use Rattle.check_rule.specs.Finds.{Passes}
 use Rattle.row.specs.Field.{fieldBytes}
 use Rattle.copies.specs.Copies.{headerLength, copiesLength}
 use Rattle.copies.specs.Agreed.{Agreed}

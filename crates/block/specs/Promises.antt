@@ -10,8 +10,8 @@ use Rattle.ground.specs.Grounds.{Ground, firstOf, NoneHolds}
 use Rattle.bits.specs.Bits.{Below, spell, words, sent}
 use Rattle.bits.specs.Fields.{fillOf}
 use Rattle.bits.specs.Runs.{Altered}
-use Rattle.check_word.specs.Check.{generator}
-use Rattle.check_word.specs.Finds.{Passes}
+use Rattle.check_rule.specs.Check.{generator}
+use Rattle.check_rule.specs.Finds.{Passes}
 use Rattle.row.specs.Field.{fieldBytes, fillBits}
 use Rattle.row.specs.Promises.{mostWords}
 use Rattle.copies.specs.Copies.{headerLength, copiesLength, copyAt, headerIn}

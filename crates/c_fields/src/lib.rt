@@ -1,7 +1,7 @@
 // What a block is made of, from C: the check word of a message, words of a size out of a field, and into one.
 ghost use mathlib.Core.Path.{_≡_};
 ghost use lib.ListN.{length};
-ghost use Rattle.check_word.specs.Check.{checkWord};
+ghost use Rattle.check_rule.specs.Check.{checkWord};
 ghost use Rattle.bits.specs.Fields.{takeAnswer, roomTaken, putAnswer, fieldPut};
 ghost use Rattle.c_numbers.specs.Numbers.{upTo};
 use c_numbers::in_byte;

@@ -14,9 +14,9 @@ use Rattle.ground.specs.Grounds.{NoneHolds}
 use Rattle.ground.proofs.LawsTests.{neither}
 use Rattle.bits.specs.Bits.{Below}
 use Rattle.bits.proofs.LawsBelow.{below-take, below-drop}
-use Rattle.check_word.specs.Check.{generator, passes}
-use Rattle.check_word.specs.Finds.{Passes}
-use Rattle.check_word.proofs.LawsPasses.{passes-true, true-passes}
+use Rattle.check_rule.specs.Check.{generator, passes}
+use Rattle.check_rule.specs.Finds.{Passes}
+use Rattle.check_rule.proofs.LawsPasses.{passes-true, true-passes}
 use Rattle.copies.specs.Copies.{copyLength, copiesLength, copyAt, sameAs, differ, common, commonIn, noCopyPasses, copiesDiffer, copiesGrounds}
 use Rattle.copies.specs.Agreed.{Agreed}
 use Rattle.copies.proofs.LawsSame.{same-refl, same-equal}

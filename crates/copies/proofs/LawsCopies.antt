@@ -9,7 +9,7 @@ use lib.ListN.{take}
 use Rattle.ground.specs.Choice.{pick}
 use Rattle.ground.proofs.LawsChoice.{yes, no}
 use Rattle.ground.proofs.LawsGrounds.{accepts, refuses}
-use Rattle.check_word.specs.Check.{passes}
+use Rattle.check_rule.specs.Check.{passes}
 use Rattle.copies.specs.Copies.{headerLength, sameAs, nonePasses, twoDiffer, common, refusedCommon, foundCommon, agreedOf}
 
 -- which of three copies pass

@@ -7,7 +7,7 @@ use lib.Dec.{eqb, ltb}
 use lib.ListN.{length, take, drop, replicate}
 use Rattle.ground.specs.Choice.{pick}
 use Rattle.ground.specs.Grounds.{Ground, _when_, firstOf}
-use Rattle.check_word.specs.Check.{passes}
+use Rattle.check_rule.specs.Check.{passes}
 use Rattle.copies.specs.declared.Common.{Common}
 
 -- a header as it is given back and lent: its first 28 bytes, without the check word

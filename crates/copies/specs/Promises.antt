@@ -5,7 +5,7 @@ use mathlib.Core.Path.{_≡_}
 use mathlib.Core.List.{List}
 use lib.ListN.{take}
 use Rattle.bits.specs.Bits.{Below}
-use Rattle.check_word.specs.Check.{passes}
+use Rattle.check_rule.specs.Check.{passes}
 use Rattle.copies.specs.declared.Common.{Common}
 use Rattle.copies.specs.Copies.{headerLength, copyAt, commonOf, refusedCommon}
 use Rattle.copies.specs.Agreed.{Agreed}

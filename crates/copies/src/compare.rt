@@ -5,7 +5,7 @@ ghost use mathlib.Core.List.{[]};
 ghost use Prim.Native.Nat.{_<_, _≤_};
 ghost use lib.ListN.{length, take, getD};
 ghost use Rattle.ground.specs.Choice.{pick};
-ghost use Rattle.check_word.specs.Check.{passes};
+ghost use Rattle.check_rule.specs.Check.{passes};
 ghost use Rattle.copies.specs.Copies.{headerLength, copiesLength, copyAt, sameAs, refusedCommon, agreedOf};
 use crate::COPY_BYTES;
 use crate::Common;

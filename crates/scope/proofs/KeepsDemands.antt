@@ -12,8 +12,8 @@ use borrow.Author.Tests.{ltb-true, ltb-false}
 use Rattle.bits.specs.Bits.{Below, words, sent}
 use Rattle.bits.specs.Runs.{Altered}
 use Rattle.bits.proofs.LawsWords.{length-spell}
-use Rattle.check_word.specs.Check.{generator}
-use Rattle.check_word.specs.Finds.{Passes}
+use Rattle.check_rule.specs.Check.{generator}
+use Rattle.check_rule.specs.Finds.{Passes}
 use Rattle.row.specs.Field.{fieldBytes}
 use Rattle.row.proofs.LawsField.{bits-whole}
 use Rattle.copies.specs.Copies.{copyAt}

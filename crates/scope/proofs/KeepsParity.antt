@@ -14,7 +14,7 @@ use borrow.Author.Tests.{eqb-true, eq-eqb, leb-true, leb-false}
 use Rattle.ground.proofs.LawsChoice.{either}
 use Rattle.ground.proofs.LawsGrounds.{reads-number}
 use Rattle.ground.specs.Grounds.{_when_}
-use Rattle.check_word.proofs.LawsXor.{xor-assoc}
+use Rattle.check_rule.proofs.LawsXor.{xor-assoc}
 use Rattle.parity.specs.Sections as Parity
 use Rattle.parity.specs.Sections.{xorOf, sectionsIn, holdsIn, verdictsOn, judgedAs, refusedBy, sectionsOf}
 use Rattle.parity.specs.Words.{anyLarge, groundOf}

@@ -6,7 +6,7 @@ use mathlib.Core.List.{List}
 use native.Mathlib.Omega.{arith}
 use lib.ListN.{getD, drop}
 use lib.Seq.{getD-take, getD-drop}
-use Rattle.check_word.proofs.Table as table
+use Rattle.check_rule.proofs.Table as table
 use Rattle.row.specs.Field.{fieldBytes}
 use Rattle.header.specs.Says.{timeIn}
 use Rattle.block.proofs.KeepsMarked.{mark-unread, reads-marked-alike}

@@ -9,8 +9,8 @@ use lib.Dec.{lit<, eqb}
 use lib.ListN.{length, take}
 use borrow.Author.Tests.{ne-eqb, eqb-true, eqb-false}
 use Rattle.ground.proofs.LawsChoice.{no}
-use Rattle.check_word.specs.Check.{generator}
-use Rattle.check_word.specs.Finds.{Passes}
+use Rattle.check_rule.specs.Check.{generator}
+use Rattle.check_rule.specs.Finds.{Passes}
 use Rattle.row.specs.Pixels.{imageSize}
 use Rattle.row.specs.Rows.{fixedBits}
 use Rattle.row.specs.Field.{upTo16, fieldBits, fieldBytes}

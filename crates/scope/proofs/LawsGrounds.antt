@@ -16,9 +16,9 @@ use Rattle.bits.specs.Bits.{Below, sent}
 use Rattle.bits.specs.Fields.{allZero, fillOf}
 use Rattle.bits.proofs.LawsBelow.{below-drop}
 use Rattle.bits.proofs.LawsWords.{length-spell, spell-append, spell-below}
-use Rattle.check_word.specs.Check.{generator, passes}
-use Rattle.check_word.specs.Finds.{Passes}
-use Rattle.check_word.proofs.LawsPasses.{passes-true, true-passes}
+use Rattle.check_rule.specs.Check.{generator, passes}
+use Rattle.check_rule.specs.Finds.{Passes}
+use Rattle.check_rule.proofs.LawsPasses.{passes-true, true-passes}
 use Rattle.row.specs.Rows.{rowOf, permits}
 use Rattle.row.specs.Suits.{Scan, Suits, zeroth, first, second, others, last6, last8, last10}
 use Rattle.row.proofs.LawsRow.{row-cases, suits-takes}

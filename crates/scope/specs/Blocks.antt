@@ -4,7 +4,7 @@ use Prim.Native.Nat.{ℕ, _+_, _*_, _/_, _%_, _≤_}
 use mathlib.Core.Path.{_≡_}
 use mathlib.Core.List.{List, [], _∷_, _++_}
 use lib.ListN.{length, take, drop, set}
-use Rattle.check_word.specs.Check.{checkWord}
+use Rattle.check_rule.specs.Check.{checkWord}
 use Rattle.row.specs.Suits.{Suits}
 use Rattle.header.specs.Says.{timeIn}
 use Rattle.header.specs.Asks.{IsBlock}

@@ -6,6 +6,10 @@ use Rattle.bits.proofs.two_bytes
 use Rattle.bits.proofs.take_words
 use Rattle.bits.proofs.put_words
 use Rattle.bits.proofs.fill_is_zero
+use Rattle.check_eight.proofs.word_behind
+use Rattle.check_eight.proofs.check_from
+use Rattle.check_eight.proofs.check_by_eight
+use Rattle.check_window.proofs.check_by_turn
 use Rattle.check_word.proofs.check_word
 use Rattle.check_word.proofs.passes
 use Rattle.room.proofs.lay
@@ -66,6 +70,12 @@ pub record AllSettled : Type 0 where
   pub take-words : Settled take_words.ended take_words.Reads.Learnt
   pub put-words : Settled put_words.ended put_words.Reads.Learnt
   pub fill-is-zero : Settled fill_is_zero.ended fill_is_zero.Reads.Learnt
+  -- check_eight
+  pub word-behind : Settled word_behind.ended word_behind.Reads.Learnt
+  pub check-from : Settled check_from.ended check_from.Reads.Learnt
+  pub check-by-eight : Settled check_by_eight.ended check_by_eight.Reads.Learnt
+  -- check_window
+  pub check-by-turn : Settled check_by_turn.ended check_by_turn.Reads.Learnt
   -- check_word
   pub check-word : Settled check_word.ended check_word.Reads.Learnt
   pub passes : Settled passes.ended passes.Reads.Learnt

@@ -14,9 +14,9 @@ use Rattle.bits.specs.Fields.{fillOf, fieldOf, allZero}
 use Rattle.bits.proofs.LawsWords.{length-spell}
 use Rattle.bits.proofs.LawsFill.{all-zero}
 use Rattle.bits.proofs.LawsFields.{length-fieldOf, fieldOf-below, sent-fieldOf}
-use Rattle.check_word.specs.Check.{generator, checkWord, bytesOf, passes}
-use Rattle.check_word.specs.Finds.{Passes}
-use Rattle.check_word.proofs.LawsPasses.{true-passes}
+use Rattle.check_rule.specs.Check.{generator, checkWord, bytesOf, passes}
+use Rattle.check_rule.specs.Finds.{Passes}
+use Rattle.check_rule.proofs.LawsPasses.{true-passes}
 use Rattle.row.specs.Field.{fieldBytes}
 use Rattle.row.proofs.LawsField.{words-held}
 use Rattle.copies.specs.Copies.{headerLength, copyLength, copiesLength, copyAt, headerIn}

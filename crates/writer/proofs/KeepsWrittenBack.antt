@@ -12,7 +12,7 @@ use Rattle.bits.specs.Bits.{Below}
 use Rattle.bits.specs.Fields.{wordsOf, fieldOf}
 use Rattle.bits.proofs.LawsBelow.{below-take, below-drop}
 use Rattle.bits.proofs.LawsFields.{length-wordsOf, wordsOf-below, put-taken}
-use Rattle.check_word.specs.Check.{checkLength}
+use Rattle.check_rule.specs.Check.{checkLength}
 use Rattle.row.specs.Field.{fieldBytes}
 use Rattle.row.proofs.LawsField.{words-held}
 use Rattle.copies.specs.Copies.{headerLength, copyLength, copiesLength, copyAt}

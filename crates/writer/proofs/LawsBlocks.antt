@@ -13,9 +13,9 @@ use Rattle.bits.specs.Fields.{fieldOf}
 use Rattle.bits.proofs.LawsBelow.{below-append}
 use Rattle.bits.proofs.LawsFields.{length-fieldOf}
 use Rattle.bits.proofs.LawsWords.{spell-below}
-use Rattle.check_word.specs.Check.{generator, checkBy, checkLength, checkWord, bytesOf}
-use Rattle.check_word.specs.Finds.{Passes}
-use Rattle.check_word.proofs.LawsFeed.{feed-lt}
+use Rattle.check_rule.specs.Check.{generator, checkBy, checkLength, checkWord, bytesOf}
+use Rattle.check_rule.specs.Finds.{Passes}
+use Rattle.check_rule.proofs.LawsFeed.{feed-lt}
 use Rattle.copies.specs.Copies.{headerLength, copyLength, copiesLength, copyAt}
 use Rattle.copies.specs.Agreed.{ThreeEqual}
 use Rattle.copies.proofs.LawsAgreed.{each}

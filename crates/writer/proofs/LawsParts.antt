@@ -14,7 +14,7 @@ use Rattle.ground.specs.Choice.{pick}
 use Rattle.ground.proofs.LawsChoice.{no}
 use Rattle.bits.specs.Fields.{badSize, putAnswer, fieldPut, fieldOf, allFit}
 use Rattle.bits.proofs.LawsFields.{length-fieldOf}
-use Rattle.check_word.specs.Check.{checkWord, bytesOf}
+use Rattle.check_rule.specs.Check.{checkWord, bytesOf}
 use Rattle.room.specs.Laid.{laid, laidInside}
 use Rattle.room.proofs.LawsLaid.{laid-inside, lay-then, laid-all}
 use Rattle.row.specs.Promises.{Held}

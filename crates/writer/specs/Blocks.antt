@@ -3,7 +3,7 @@
 use Prim.Native.Nat.{ℕ}
 use mathlib.Core.List.{List, _++_}
 use Rattle.bits.specs.Fields.{fieldOf}
-use Rattle.check_word.specs.Check.{checkWord, bytesOf}
+use Rattle.check_rule.specs.Check.{checkWord, bytesOf}
 
 -- a message followed by its check word
 abbrev pub sealed : List ℕ → List ℕ

@@ -5,7 +5,7 @@ ghost use Prim.Native.Nat.{_+_, _-_, _≤_};
 ghost use lib.ListN.{length, take, drop};
 ghost use Rattle.ground.specs.Choice.{pick};
 ghost use Rattle.bits.specs.Fields.{putAnswer, fieldPut, allFit};
-ghost use Rattle.check_word.specs.Check.{checkLength, checkWord, bytesOf};
+ghost use Rattle.check_rule.specs.Check.{checkLength, checkWord, bytesOf};
 ghost use Rattle.room.specs.Laid.{laid};
 ghost use Rattle.row.specs.Promises.{Held};
 ghost use Rattle.copies.specs.Copies.{headerLength, copiesLength};

@@ -3,14 +3,14 @@
 use mathlib.Core.Path.{_≡_, sym, ap, ap₂, _∙_}
 use mathlib.Core.Bool.{Bool, _&&_}
 use mathlib.Core.List.{List}
-use Prim.Native.Nat.{ℕ, _+_, _-_, _*_, _<_}
+use Prim.Native.Nat.{ℕ, _+_, _-_, _*_}
 use native.Mathlib.Omega.{arith}
 use borrow.Author.Needs.{needs}
 use borrow.Author.Tests.{le-leb, lt-leb}
 use lib.Dec.{eqb}
 use lib.ListN.{length, take, getD}
 use lib.Seq.{length-take-le}
-use Rattle.check_word.specs.Check.{checkWord, passes}
+use Rattle.check_rule.specs.Check.{checkWord, passes}
 use Rattle.check_word.proofs.passes.Statement.{statement}
 use Rattle.check_word.proofs.passes.Tie as tie
 
@@ -22,61 +22,19 @@ returns : tie.Need-returns
 unfolding passes
 returns c = let s = c .before .before .args .s .now in sym (ap (λ (t : Bool). t && agrees s) (lt-leb 2 (length s) (c .if1 .taken)))
 
-sub-end : tie.Need-sub-end
-sub-end c = search needs
-
-shared-slice-read-high : tie.Need-shared-slice-read-high
-shared-slice-read-high c = search needs
-
-cast-high : tie.Need-cast-high
-cast-high c = omega (arith, c .shared-slice-known2 .given (length (c .before .before .before .args .s .now) - 2))
-
-add-low : tie.Need-add-low
-add-low c = search needs
-
-shared-slice-read-low : tie.Need-shared-slice-read-low
-shared-slice-read-low c = search needs
-
-cast-low : tie.Need-cast-low
-cast-low c = omega (arith, c .shared-slice-known3 .given (length (c .before .before .before .before .args .s .now) - 2 + 1))
-
 slice-aggregate-check-word : tie.Need-slice-aggregate-check-word
-slice-aggregate-check-word c = let s = c .before .before .before .before .before .args .s .now in sym (length-take-le (length s - 2) s (omega arith))
-
-check-word-requires : tie.Need-check-word-requires
-check-word-requires c κs = search needs
-
--- the two bytes
-high-lt : (c : tie.After-check-word) → getD (c .before .before .before .before .before .before .args .s .now) (length (c .before .before .before .before .before .before .args .s .now) - 2) 0 < 256
-high-lt c = c .before .before .before .shared-slice-known2 .given _ .fits
-
-mul-result : tie.Need-mul-result
-mul-result c = omega (arith, high-lt c)
-
-add-result : tie.Need-add-result
-add-result c = omega (arith, high-lt c, c .before .before .shared-slice-known3 .given (length (c .before .before .before .before .before .before .args .s .now) - 2 + 1))
+slice-aggregate-check-word c = let s = c .before .before .before .args .s .now in sym (length-take-le (length s - 2) s (omega arith))
 
 returns-2 : tie.Need-returns-2
 unfolding passes
 returns-2 c =
-    let s = c .before .before .before .before .before .before .args .s .now in
+    let test = c .before .before .before .before .before in
+    let s = test .before .before .args .s .now in
     let e : length s - 2 + 1 ≡ length s - 1 = omega arith in
-    ap₂ (λ (w n : ℕ). eqb w (getD s (length s - 2) 0 * 256 + getD s n 0)) (c .check-word .ensures) e
-    ∙ sym (ap (λ (t : Bool). t && agrees s) (le-leb 2 (length s) (c .before .before .before .before .if1 .left)))
+    ap₂ eqb (c .before .before .before .check-word .ensures) (c .two-bytes .ensures ∙ ap (λ (n : ℕ). getD s (length s - 2) 0 * 256 + getD s n 0) e)
+    ∙ sym (ap (λ (t : Bool). t && agrees s) (le-leb 2 (length s) (test .if1 .left)))
 
 pub passes-spec : {M : Type 1} → statement M
 passes-spec =
     tie.close
-    (tie.spec
-    returns
-    sub-end
-    shared-slice-read-high
-    cast-high
-    add-low
-    shared-slice-read-low
-    cast-low
-    slice-aggregate-check-word
-    check-word-requires
-    mul-result
-    add-result
-    returns-2)
+    (tie.spec returns (λ c. search needs) slice-aggregate-check-word (λ c κs. search needs) (λ c. search needs) (λ c. search needs) (λ c. search needs) (λ c κs. search needs) returns-2)

@@ -6,7 +6,7 @@ use mathlib.Core.Bool.{not}
 use native.Mathlib.Omega.{arith}
 use lib.ListN.{length, drop, length-drop}
 use lib.Seq.{take-all}
-use Rattle.check_word.specs.Check.{passes}
+use Rattle.check_rule.specs.Check.{passes}
 use Rattle.copies.specs.Copies.{copiesLength}
 use borrow.Author.Needs.{needs}
 use Rattle.block.proofs.field.check_disagrees.Statement.{statement}

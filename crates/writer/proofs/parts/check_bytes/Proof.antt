@@ -1,7 +1,7 @@
 -- `writer::parts::check_bytes` meets its contract.
 -- Assumes nothing.
 use mathlib.Core.Path.{ap}
-use Rattle.check_word.specs.Check.{bytesOf}
+use Rattle.check_rule.specs.Check.{bytesOf}
 use borrow.Author.Needs.{needs}
 use Rattle.writer.proofs.parts.check_bytes.Statement.{statement}
 use Rattle.writer.proofs.parts.check_bytes.Tie as tie

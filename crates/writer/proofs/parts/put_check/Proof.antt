@@ -3,7 +3,7 @@
 use mathlib.Core.Path.{ap, _∙_}
 use Prim.Native.Nat.{_-_}
 use lib.ListN.{take, drop}
-use Rattle.check_word.specs.Check.{checkWord, bytesOf}
+use Rattle.check_rule.specs.Check.{checkWord, bytesOf}
 use Rattle.room.specs.Laid.{laidInside}
 use Rattle.room.proofs.LawsLaid.{laid-inside}
 use borrow.Author.Needs.{needs}

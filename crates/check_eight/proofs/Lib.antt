@@ -1,0 +1,2 @@
+pub mod LawsLinear
+pub mod LawsEight

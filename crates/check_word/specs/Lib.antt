@@ -1,4 +1,0 @@
-pub mod Check
-pub mod Finds
-pub mod Eight
-pub mod Turn
