@@ -50,7 +50,7 @@ words-taken size words bytes field room l h r =
     sym (accepts (wordsOf size words field ++ drop words room) (λ _. room) none)
 
 -- the common header of a block that is long enough to have one
-pub header-long : (block : List ℕ) → copiesLength ≤ length block → length (headerIn block) ≡ headerLength
+header-long : (block : List ℕ) → copiesLength ≤ length block → length (headerIn block) ≡ headerLength
 unfolding common
 header-long block l =
     let long = copy-long block l in
@@ -163,7 +163,7 @@ module _ (block : List ℕ) where
         judged-is : judged ≡ judgedBy h block (length room)
         judged-is = j ∙ ap (λ (c : Common). judgedBy (c .header) block (length room)) found-is
 
-        pub left-is : after ≡ roomAfter block room
+        left-is : after ≡ roomAfter block room
         left-is = a ∙ ap (λ (c : Common). roomBy (c .header) block room) found-is ∙ sym (room-alike room (copies-number ∙ z))
 
         number-by-header : refusalBy h block (length room) ≡ judged .number

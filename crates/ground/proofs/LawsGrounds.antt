@@ -91,14 +91,6 @@ exactly gs n d m before g after e = (
   λ h. m ∙ ap firstOf e ∙ first-is before g after (h .0) (h .1),
 )
 
--- where x and y are equal if n is 0, so are what is picked by it
-pub join : (n : ℕ) {x y : ℕ} → (n ≡ 0 → x ≡ y) → pick (eqb n 0) x n ≡ pick (eqb n 0) y n
-join n {x} {y} f = go (eqb n 0) refl
-  where
-    go : (t : Bool) → eqb n 0 ≡ t → pick t x n ≡ pick t y n
-    go true e = f (eqb-true n 0 e)
-    go false e = refl
-
 -- an answer that goes by a refusal's number: a where it is 0, and f of it where it is not
 module _ {X : Type 0} (a : X) (f : ℕ → X) where
   pub accepts : {n : ℕ} → n ≡ 0 → a ≡ pick (eqb n 0) a (f n)
