@@ -1,0 +1,255 @@
+-- The C functions answer what the library does: by their contracts, with the laws of numbers that are cut where C gives one.
+-- Assumes nothing.
+use Prim.Native.Nat.{ℕ, _*_, _^_, _≤_, _<_}
+use native.Mathlib.Omega.{arith}
+use mathlib.Core.Path.{_≡_, refl, sym, ap, ap₂, _∙_, subst}
+use mathlib.Core.Logic.{_⊎_, inl, inr, ⊎-elim}
+use mathlib.Core.Bool.{Bool, true, false, not, _||_}
+use mathlib.Core.List.{List, [], _∷_, _++_}
+use lib.Dec.{eqb, ltb, leb}
+use lib.ListN.{length, getD, drop, replicate}
+use borrow.Author.Tests.{ltb-true, ltb-false, leb-true, leb-false, eqb-true, eq-eqb, ne-eqb, not-true, not-false}
+use Rattle.ground.specs.Choice.{pick}
+use Rattle.ground.proofs.LawsTests.{never}
+use Rattle.bits.specs.Bits.{Below}
+use Rattle.bits.specs.Fields.{wordsOf, fieldOf, badSize, fit, allFit, takeAnswer, roomTaken, putAnswer}
+use Rattle.bits.proofs.Table.{row7}
+use Rattle.bits.proofs.LawsFitting.{size-bounds}
+use Rattle.bits.proofs.LawsFill.{fit-below, below-fit}
+use Rattle.row.specs.Rows.{recordsIn, rowOf, permits}
+use Rattle.row.specs.Field.{fieldBits, fieldBytes}
+use Rattle.header.specs.Says as says
+use Rattle.header.specs.Plans.{planOf}
+use Rattle.placement.specs.Placement.{placeOf}
+use Rattle.placement.proofs.LawsPlacement.{unknown-block}
+use Rattle.block.specs.Answers.{answerOf}
+use Rattle.block.specs.declared.Answer.{Answer}
+use Rattle.parity.specs.Sections.{sectionsOf}
+use Rattle.parity.specs.declared.Layout.the-variants.{ImagerSpacelook, SounderSpacelook}
+use Rattle.tag.specs.Digits.{digitsOf, decimal, valueOf}
+use Rattle.tag.specs.Tags.{inBounds, tagOf, goodTag, readTag}
+use Rattle.tag.specs.Times.{timeOf, elapsedOf}
+use Rattle.tag.specs.declared.Tag.{Tag}
+use Rattle.tag.proofs.KeepsTable.{row9, all-differ}
+use Rattle.tag.proofs.LawsCalendar.{quick}
+use Rattle.watch.specs.Verdicts.{numberOf}
+use Rattle.watch.specs.Bounds.{refusalOf}
+use Rattle.watch.specs.Rules.{expecting, inTime, onOpen, onGood, stepOf}
+use Rattle.watch.specs.declared.Watch.{Watch}
+use Rattle.watch.specs.declared.Stepped.{Stepped}
+use Rattle.watch.specs.declared.Closing.the-variants.{ClockBack, Late, Broken, Complete}
+use Rattle.watch.specs.declared.Verdict.{Verdict}
+use Rattle.watch.specs.declared.Verdict.the-variants.{Refused, Stray, Opened, Kept, Closed}
+use Rattle.watch.proofs.LawsRules.{stepped}
+use Rattle.watch.proofs.KeepsRules.{beginning}
+use Rattle.c_numbers.specs.Numbers.{upTo}
+use Rattle.c_numbers.specs.Marks as marks
+use Rattle.c_blocks.specs.Copies.{copiesIn}
+use Rattle.c_parity.specs.Verdicts.{marksAt}
+use Rattle.c_tags.specs.Times.{numbersOf}
+use Rattle.c_watch.specs.Watches.{watchIn, numbersOfWatch, codeOf, leaves, rowAfter, rowBegun}
+use Rattle.scope.specs.Notions.{Reason, _if_, FirstOf}
+use Rattle.from_c.specs.FromC.{mark, time, watch, watchAt, code, FromC, RowsFromC}
+use Rattle.from_c.proofs.LawsFromC.{take-cut, room-cut, put-cut, field-cut, place-cut, part-cut, write-cut, follows}
+
+-- ---- marks, times and watches
+
+mark-same : (on : Bool) → marks.mark on ≡ mark on
+mark-same true = refl
+mark-same false = refl
+
+copies-same : (a : Answer) → copiesIn a ≡ mark (a .first) ∷ mark (a .second) ∷ mark (a .third) ∷ []
+copies-same a = λ i. mark-same (a .first) i ∷ mark-same (a .second) i ∷ mark-same (a .third) i ∷ []
+
+module _ (h : List Bool) where
+  at : (i : ℕ) → marks.mark (getD h i false) ≡ mark (getD h i false)
+  at i = mark-same (getD h i false)
+
+  four-same : marksAt (0 ∷ 1 ∷ 2 ∷ 3 ∷ []) h ≡ mark (getD h 0 false) ∷ mark (getD h 1 false) ∷ mark (getD h 2 false) ∷ mark (getD h 3 false) ∷ []
+  four-same = λ i. at 0 i ∷ at 1 i ∷ at 2 i ∷ at 3 i ∷ []
+
+  two-same : marksAt (0 ∷ 1 ∷ []) h ≡ mark (getD h 0 false) ∷ mark (getD h 1 false) ∷ []
+  two-same = λ i. at 0 i ∷ at 1 i ∷ []
+
+time-same : (t : Tag) → numbersOf t ≡ time t
+time-same t = ap (λ (n : ℕ). t .year ∷ t .day ∷ t .hour ∷ t .minute ∷ t .second ∷ t .ms ∷ n ∷ []) (mark-same (t .flywheel))
+
+watch-same : (w : Watch) → numbersOfWatch w ≡ watch w
+watch-same w = λ i. mark-same (w .opened) i ∷ w .expected ∷ (time-same (w .last) i ++ (w .limit ∷ []))
+
+code-same : (v : Verdict) → codeOf v ≡ code v
+code-same (Refused n) = refl
+code-same Stray = refl
+code-same Opened = refl
+code-same Kept = refl
+code-same (Closed ClockBack) = refl
+code-same (Closed Late) = refl
+code-same (Closed Broken) = refl
+code-same (Closed Complete) = refl
+
+left : (v : Verdict) → code v ≤ 1 → leaves v ≡ true
+left (Refused n) h = refl
+left Stray h = refl
+left Opened h = absurd (omega arith)
+left Kept h = absurd (omega arith)
+left (Closed ClockBack) h = absurd (omega arith)
+left (Closed Late) h = absurd (omega arith)
+left (Closed Broken) h = absurd (omega arith)
+left (Closed Complete) h = absurd (omega arith)
+
+changed : (v : Verdict) → 2 ≤ code v → leaves v ≡ false
+changed (Refused n) h = absurd (omega arith)
+changed Stray h = absurd (omega arith)
+changed Opened h = refl
+changed Kept h = refl
+changed (Closed why) h = refl
+
+module _ (row : List ℕ) (block : ℕ) (tag : List ℕ) where
+  -- the offer to the watch of numbers that are cut, and to that of the numbers themselves
+  abbrev r : Stepped
+  r = stepOf (watchIn row) (upTo 255 block) tag
+
+  abbrev q : Stepped
+  q = stepOf (watchAt row) block tag
+
+  did : {verdict : ℕ} → verdict ≡ codeOf (r .verdict) → verdict ≡ code (q .verdict)
+  did e = e ∙ ap codeOf (follows row block tag .did) ∙ code-same (q .verdict)
+
+  module _ {verdict : ℕ} {after : List ℕ} (e : verdict ≡ codeOf (r .verdict)) (f : after ≡ rowAfter r row) where
+    row-by : (t : Bool) → leaves (q .verdict) ≡ t → after ≡ pick t row (numbersOfWatch (r .next))
+    row-by t h = f ∙ ap (λ (x : Bool). pick x row (numbersOfWatch (r .next))) (ap leaves (follows row block tag .did) ∙ h)
+
+    as-it-was : verdict ≤ 1 → after ≡ row
+    as-it-was h = row-by true (left (q .verdict) (subst (λ (n : ℕ). n ≤ 1) (did e) h))
+
+    as-next : 2 ≤ verdict → after ≡ watch (q .next)
+    as-next h =
+        let c : leaves (q .verdict) ≡ false = changed (q .verdict) (subst (λ (n : ℕ). 2 ≤ n) (did e) h) in
+        row-by false c ∙ ap numbersOfWatch (follows row block tag .next c) ∙ watch-same (q .next)
+
+-- ---- words out of a field and into one
+
+-- a number that a test gives, beside the reason that the test is of
+by-test : (k : ℕ) (t : Bool) {P : Type 0} (rs : List Reason) (m : ℕ) → (t ≡ true → P) → (t ≡ false → P → ⊥) → FirstOf rs m → FirstOf (k if P ∷ rs) (pick t k m)
+by-test k true rs m f g h = inl (f refl, refl)
+by-test k false rs m f g h = inr (g refl, h)
+
+outside : (size : ℕ) → badSize size ≡ true → (size < 1) ⊎ (16 < size)
+outside size = go (eqb size 0) (ltb 16 size) refl refl
+  where
+    go : (t u : Bool) → eqb size 0 ≡ t → ltb 16 size ≡ u → t || u ≡ true → (size < 1) ⊎ (16 < size)
+    go true u e f h = let z : size ≡ 0 = eqb-true size 0 e in inl (omega arith)
+    go false true e f h = inr (ltb-true 16 size f)
+    go false false e f h = never h
+
+inside : (size : ℕ) → badSize size ≡ false → (size < 1) ⊎ (16 < size) → ⊥
+inside size e h = let b = size-bounds size e in ⊎-elim (λ l. omega (arith, b .0)) (λ l. omega (arith, b .1)) h
+
+below-it : (a b : ℕ) → not (leb a b) ≡ false → b < a → ⊥
+below-it a b e h = let l : a ≤ b = leb-true a b (not-false (leb a b) e) in omega arith
+
+within-it : (a b : ℕ) → ltb a b ≡ false → a < b → ⊥
+within-it a b e h = let l : b ≤ a = ltb-false a b e in omega arith
+
+module _ (size : ℕ) where
+  abbrev sizes : Reason
+  sizes = 6 if ((size < 1) ⊎ (16 < size))
+
+  taking : (count : ℕ) (field : List ℕ) (lent : ℕ)
+      → FirstOf (sizes ∷ 8 if (length field * 8 < count * size) ∷ 9 if (lent < count) ∷ []) (takeAnswer size count field lent)
+  taking count field lent =
+      by-test 6 (badSize size) (8 if (length field * 8 < count * size) ∷ 9 if (lent < count) ∷ []) (pick (not (fit count size (length field))) 8 (pick (ltb lent count) 9 0))
+      (outside size) (inside size)
+      (by-test 8 (not (fit count size (length field))) (9 if (lent < count) ∷ []) (pick (ltb lent count) 9 0)
+      (λ e. leb-false (count * size) (length field * 8) (not-true (fit count size (length field)) e)) (below-it (count * size) (length field * 8))
+      (by-test 9 (ltb lent count) [] 0 (ltb-true lent count) (within-it lent count) refl))
+
+  putting : (words : List ℕ) (lent : ℕ)
+      → FirstOf (sizes ∷ 9 if (lent * 8 < length words * size) ∷ 14 if (Below (2 ^ size) words → ⊥) ∷ []) (putAnswer size words lent)
+  putting words lent =
+      by-test 6 (badSize size) (9 if (lent * 8 < length words * size) ∷ 14 if (Below (2 ^ size) words → ⊥) ∷ [])
+      (pick (not (fit (length words) size lent)) 9 (pick (not (allFit size words)) 14 0))
+      (outside size) (inside size)
+      (by-test 9 (not (fit (length words) size lent)) (14 if (Below (2 ^ size) words → ⊥) ∷ []) (pick (not (allFit size words)) 14 0)
+      (λ e. leb-false (length words * size) (lent * 8) (not-true (fit (length words) size lent) e)) (below-it (length words * size) (lent * 8))
+      (by-test 14 (not (allFit size words)) [] 0 (λ e b. never (sym (not-true (allFit size words) e) ∙ below-fit size words b))
+      (λ e f. f (fit-below size words (not-false (allFit size words) e))) refl))
+
+-- what goes by a number: one thing where it is 0, another where it is not
+module _ {X : Type 0} (n : ℕ) (a d : X) {answer : ℕ} {x : X} (e : answer ≡ n) (f : x ≡ pick (eqb n 0) a d) where
+  at-zero : answer ≡ 0 → x ≡ a
+  at-zero z = f ∙ ap (λ (t : Bool). pick t a d) (eq-eqb n 0 (sym e ∙ z))
+
+  at-others : (answer ≡ 0 → ⊥) → x ≡ d
+  at-others h = f ∙ ap (λ (t : Bool). pick t a d) (ne-eqb n 0 (λ z. h (e ∙ z)))
+
+pub from-c : FromC
+from-c = record {
+  read = λ _ g x. let p = x .allowed in (p .0, p .1 .1 .1 .1, p .1 .0, p .1 .1 .0 ∙ copies-same (answerOf (g .0 .now) (length (g .1 .0 .now))), p .1 .1 .1 .0);
+  plan = λ _ _ x. let e = x .allowed in (λ i. e i .number, λ i. e i .block, λ i. e i .version, λ i. e i .size, λ i. e i .records, λ i. e i .words, λ i. e i .bytes);
+  write = λ _ _ x. let e = x .allowed .0 in (λ i. e i .number, x .allowed .1, λ i. e i .bytes);
+  part = λ _ g x. let e = x .allowed ∙ part-cut (g .0 .now) (g .1 .0) (g .1 .1 .0) in (λ i. e i .number, λ i. e i .start, λ i. e i .length);
+  place = λ _ g x. let e = x .allowed ∙ place-cut (g .0) (g .1 .0) (g .1 .1 .0) in (λ i. e i .number, λ i. e i .channel, λ i. e i .detector);
+  imager = λ _ g x. (x .allowed .0, x .allowed .1 ∙ four-same (sectionsOf ImagerSpacelook (g .0 .now) .holds));
+  sounder = λ _ g x. (x .allowed .0, x .allowed .1 ∙ two-same (sectionsOf SounderSpacelook (g .0 .now) .holds));
+  read-tag = λ _ g x. (x .allowed .0, x .allowed .1 ∙ time-same (readTag (g .0 .now) .tag));
+  write-tag = λ _ g x. let e = write-cut 0 (g .0 .now) in (x .allowed .0 ∙ (λ i. e i .number), x .allowed .1 ∙ (λ i. e i .bytes));
+  elapsed = λ _ _ x. let e = x .allowed in (λ i. e i .number, λ i. e i .ms);
+  begin = λ _ g x. (
+    λ h. let e = beginning .taken (g .0) h in (x .allowed .0 ∙ (λ i. e i .number), x .allowed .1 ∙ (λ i. rowBegun (e i) (g .1 .0 .now))),
+    λ h. let e = beginning .refused (g .0) h in (x .allowed .0 ∙ (λ i. e i .number), x .allowed .1 ∙ (λ i. rowBegun (e i) (g .1 .0 .now))),
+  );
+  offer = λ _ g x. let p = x .allowed in (
+    p .0 ∙ ap numberOf (follows (g .0 .now) (g .1 .0) (g .1 .1 .0 .now) .did),
+    did (g .0 .now) (g .1 .0) (g .1 .1 .0 .now) (p .1 .0),
+    as-it-was (g .0 .now) (g .1 .0) (g .1 .1 .0 .now) (p .1 .0) (p .1 .1),
+    as-next (g .0 .now) (g .1 .0) (g .1 .1 .0 .now) (p .1 .0) (p .1 .1),
+  );
+  check = λ _ _ x. x .allowed;
+  take = λ _ g x.
+      let field = g .0 .now in let size = g .1 .0 in let count = g .1 .1 .0 in let room = g .1 .1 .1 .0 .now in
+      let e = x .allowed .0 ∙ take-cut count field room size in
+      let f = x .allowed .1 ∙ room-cut count field room size in (
+        subst (FirstOf (sizes size ∷ 8 if (length field * 8 < count * size) ∷ 9 if (length room < count) ∷ [])) (sym e) (taking size count field (length room)),
+        at-zero (takeAnswer size count field (length room)) (wordsOf size count field ++ drop count room) room e f,
+        at-others (takeAnswer size count field (length room)) (wordsOf size count field ++ drop count room) room e f,
+      );
+  put = λ _ g x.
+      let words = g .0 .now in let size = g .1 .0 in let field = g .1 .1 .0 .now in
+      let e = x .allowed .0 ∙ put-cut words field size in
+      let f = x .allowed .1 ∙ field-cut words field size in (
+        subst (FirstOf (sizes size ∷ 9 if (length field * 8 < length words * size) ∷ 14 if (Below (2 ^ size) words → ⊥) ∷ [])) (sym e) (putting size words (length field)),
+        at-zero (putAnswer size words (length field)) (fieldOf size (length field) words) field e f,
+        at-others (putAnswer size words (length field)) (fieldOf size (length field) words) field e f,
+      );
+}
+
+-- ---- rows
+
+plan-3 : planOf (3 ∷ 10 ∷ 0 ∷ 22 ∷ 0 ∷ 0 ∷ 0 ∷ 2 ∷ replicate 20 0) ≡ record { number = 0; block = 3; version = 2; size = 10; records = 1; words = 20; bytes = 2680 }
+unfolding planOf says.numberOf rowOf permits recordsIn fieldBits fieldBytes
+plan-3 = refl
+
+keeps : stepOf (watchIn (1 ∷ 3 ∷ 1987 ∷ 234 ∷ 21 ∷ 43 ∷ 56 ∷ 789 ∷ 1 ∷ 5000 ∷ [])) (upTo 255 3) (0x19 ∷ 0x87 ∷ 0x23 ∷ 0x42 ∷ 0x14 ∷ 0x35 ∷ 0x89 ∷ 0x12 ∷ [])
+    ≡ stepped (expecting 4 (record { year = 1987; day = 234; hour = 21; minute = 43; second = 58; ms = 912; flywheel = false }) 5000) Kept
+unfolding upTo stepOf refusalOf onGood onOpen inTime digitsOf decimal valueOf tagOf inBounds goodTag timeOf
+keeps = rw (← quick 1987)
+
+pub rows-from-c : RowsFromC
+rows-from-c = record {
+  plan = λ _ g x h. let e = x .allowed ∙ ap planOf h ∙ plan-3 in (λ i. e i .number, λ i. (tt, (e i .block, (e i .version, (e i .size, (e i .records, (e i .words, (e i .bytes, tt))))))));
+  no-place = λ _ g x b.
+      let e = x .allowed ∙ place-cut (g .0) (g .1 .0) (g .1 .1 .0) ∙ (λ i. placeOf (b i) (g .1 .0) (g .1 .1 .0)) ∙ unknown-block 256 (g .1 .0) (g .1 .1 .0) (omega arith) in
+      (λ i. e i .number, λ i. (tt, (tt, (tt, (e i .channel, (e i .detector, tt))))));
+  read-tag = λ _ g x h. let e = ap readTag h ∙ all-differ in (x .allowed .0 ∙ (λ i. e i .number), λ i. (tt, ((x .allowed .1 ∙ (λ j. numbersOf (e j .tag))) i, tt)));
+  row9 = λ _ g x h k. let e = x .allowed ∙ ap₂ elapsedOf h k ∙ row9 .forward in (λ i. e i .number, λ i. (tt, (tt, (e i .ms, tt))));
+  kept = λ _ g x h b t.
+      let p = x .allowed in
+      let e = (λ i. stepOf (watchIn (h i)) (upTo 255 (b i)) (t i)) ∙ keeps in
+      (p .0 ∙ (λ i. numberOf (e i .verdict)), λ i. ((p .1 .1 ∙ (λ j. rowAfter (e j) (h j))) i, (tt, (tt, ((p .1 .0 ∙ (λ j. codeOf (e j .verdict))) i, tt)))));
+  row7 = λ _ g x f s c r.
+      let field = g .0 .now in let size = g .1 .0 in let count = g .1 .1 .0 in let room = g .1 .1 .1 .0 .now in (
+        x .allowed .0 ∙ take-cut count field room size ∙ (λ i. takeAnswer (s i) (c i) (f i) (length (r i))),
+        λ i. (tt, (tt, (tt, ((x .allowed .1 ∙ room-cut count field room size ∙ (λ j. roomTaken (s j) (c j) (f j) (r j)) ∙ ap (λ (ws : List ℕ). ws ++ (5 ∷ [])) row7) i, tt)))),
+      );
+}

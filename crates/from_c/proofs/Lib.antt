@@ -1,0 +1,2 @@
+pub mod LawsFromC
+pub mod KeepsFromC

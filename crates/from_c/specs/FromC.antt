@@ -1,0 +1,169 @@
+-- The C interface, function by function as include/rahmisve.h has it: what is answered, and what stands in the places lent for the answer.
+-- Each answers what the library does for the numbers that C gives, none of them cut to fit a smaller type: 256 is not block 0. What the
+-- library answers is said in the other files of this folder.
+-- Assumes nothing.
+use Prim.Native.Nat.{ℕ, zero, suc, _+_, _*_, _^_, _≤_, _<_}
+use mathlib.Core.Path.{_≡_}
+use mathlib.Core.Logic.{_⊎_}
+use mathlib.Core.Bool.{Bool, true, false}
+use mathlib.Core.List.{List, [], _∷_, _++_}
+use lib.IntN.{pos}
+use lib.ListN.{length, getD, drop, replicate}
+use contract.Lifetimes.{Lfts}
+use denote.Ref.{now}
+use denote.Triple.Entry.{Args, Res}
+use denote.Triple.Clauses.{Ended, Lasts}
+use Rattle.bits.specs.Bits.{Below}
+use Rattle.bits.specs.Fields.{wordsOf, fieldOf}
+use Rattle.check_rule.specs.Check.{checkWord}
+use Rattle.header.specs.Plans.{planOf}
+use Rattle.block.specs.Answers.{answerOf, roomAfter}
+use Rattle.writer.specs.Answers.{writtenOf, roomWritten}
+use Rattle.records.specs.Records.{partOf}
+use Rattle.placement.specs.Placement.{placeOf}
+use Rattle.parity.specs.Sections.{sectionsOf}
+use Rattle.parity.specs.declared.Layout.the-variants.{ImagerSpacelook, SounderSpacelook}
+use Rattle.tag.specs.Tags.{readTag, writeTag}
+use Rattle.tag.specs.Times.{elapsedOf}
+use Rattle.tag.specs.declared.Tag.{Tag}
+use Rattle.watch.specs.Verdicts.{numberOf}
+use Rattle.watch.specs.Rules.{stepOf}
+use Rattle.watch.specs.declared.Watch.{Watch}
+use Rattle.watch.specs.declared.Closing.the-variants.{ClockBack, Late, Broken, Complete}
+use Rattle.watch.specs.declared.Verdict.{Verdict}
+use Rattle.watch.specs.declared.Verdict.the-variants.{Refused, Stray, Opened, Kept, Closed}
+use Rattle.c_fields.proofs.rahmisve_check_word
+use Rattle.c_fields.proofs.rahmisve_take_words
+use Rattle.c_fields.proofs.rahmisve_put_words
+use Rattle.c_blocks.proofs.rahmisve_read
+use Rattle.c_blocks.proofs.rahmisve_plan
+use Rattle.c_blocks.proofs.rahmisve_write
+use Rattle.c_records.proofs.rahmisve_record
+use Rattle.c_records.proofs.rahmisve_place
+use Rattle.c_parity.proofs.rahmisve_parity_imager
+use Rattle.c_parity.proofs.rahmisve_parity_sounder
+use Rattle.c_tags.proofs.rahmisve_read_tag
+use Rattle.c_tags.proofs.rahmisve_write_tag
+use Rattle.c_tags.proofs.rahmisve_elapsed
+use Rattle.c_watch.proofs.rahmisve_watch_begin
+use Rattle.c_watch.proofs.rahmisve_watch_offer
+use Rattle.scope.specs.Notions.{_if_, FirstOf}
+use Rattle.scope.specs.Outcomes.{Contract, Outcome}
+
+-- Every outcome that a function's contract allows is so: of the arguments in their order, the answer, and the places afterwards, in the
+-- order of the arguments too. What a lent place held before is `now` of it; `tt` is of one that is not written.
+abbrev pub Every : (T : Ended) → Contract T → ((κs : Lfts (T .signature .lifetimes)) (given : Args (T .signature) κs) → Res (T .signature) κs → Lasts T κs given → Type 0) → Type 0
+Every T allows So = (κs : Lfts (T .signature .lifetimes)) (given : Args (T .signature) κs) (x : Outcome T allows κs given) → So κs given (x .answer) (x .left)
+
+-- a mark is 1 where it is on, else 0; any number but 0 puts one on
+abbrev pub mark : Bool → ℕ
+mark true = 1
+mark false = 0
+
+abbrev pub isOn : ℕ → Bool
+isOn zero = false
+isOn (suc n) = true
+
+-- a time is seven numbers in a row; read from a place on
+abbrev pub time : Tag → List ℕ
+time t = t .year ∷ t .day ∷ t .hour ∷ t .minute ∷ t .second ∷ t .ms ∷ mark (t .flywheel) ∷ []
+
+abbrev pub timeAt : ℕ → List ℕ → Tag
+timeAt n row =
+    let at : ℕ → ℕ = λ k. getD row (n + k) 0 in
+    record { year = getD row n 0; day = at 1; hour = at 2; minute = at 3; second = at 4; ms = at 5; flywheel = isOn (at 6) }
+
+-- a watch is ten: open, expected block, the last tag in places 2 to 8, limit
+abbrev pub watch : Watch → List ℕ
+watch w = mark (w .opened) ∷ w .expected ∷ (time (w .last) ++ (w .limit ∷ []))
+
+abbrev pub watchAt : List ℕ → Watch
+watchAt row = record { opened = isOn (getD row 0 0); expected = getD row 1 0; last = timeAt 2 row; limit = getD row 9 0 }
+
+-- what an offer did
+abbrev pub code : Verdict → ℕ
+code (Refused n) = 0
+code Stray = 1
+code Opened = 2
+code Kept = 3
+code (Closed ClockBack) = 4
+code (Closed Late) = 5
+code (Closed Broken) = 6
+code (Closed Complete) = 7
+
+pub record FromC : Type 0 where
+  -- blocks
+  pub read : Every rahmisve_read.ended rahmisve_read.Reads.Learnt (λ _ (block, (room, _)) answer (_, (words, (header, (copies, (count, _))))).
+      let a = answerOf (now block) (length (now room)) in
+      (answer ≡ a .number) × (words ≡ roomAfter (now block) (now room)) × (header ≡ a .header)
+      × (copies ≡ mark (a .first) ∷ mark (a .second) ∷ mark (a .third) ∷ []) × (count ≡ a .words))
+  pub plan : Every rahmisve_plan.ended rahmisve_plan.Reads.Learnt (λ _ (header, _) answer (_, (block, (version, (size, (records, (words, (field, _))))))).
+      let p = planOf (now header) in
+      (answer ≡ p .number) × (block ≡ p .block) × (version ≡ p .version) × (size ≡ p .size) × (records ≡ p .records) × (words ≡ p .words) × (field ≡ p .bytes))
+  pub write : Every rahmisve_write.ended rahmisve_write.Reads.Learnt (λ _ (header, (words, (room, _))) answer (_, (_, (block, (bytes, _)))).
+      let w = writtenOf (now header) (now words) (length (now room)) in
+      (answer ≡ w .number) × (block ≡ roomWritten (now header) (now words) (now room)) × (bytes ≡ w .bytes))
+  -- detector records
+  pub part : Every rahmisve_record.ended rahmisve_record.Reads.Learnt (λ _ (header, (words, (k, _))) answer (_, (_, (_, (start, (long, _))))).
+      let p = partOf (now header) k words in
+      (answer ≡ p .number) × (start ≡ p .start) × (long ≡ p .length))
+  pub place : Every rahmisve_place.ended rahmisve_place.Reads.Learnt (λ _ (block, (version, (k, _))) answer (_, (_, (_, (channel, (detector, _))))).
+      let p = placeOf block version k in
+      (answer ≡ p .number) × (channel ≡ p .channel) × (detector ≡ p .detector))
+  -- longitudinal parity, a mark for each section in their order
+  pub imager : Every rahmisve_parity_imager.ended rahmisve_parity_imager.Reads.Learnt (λ _ (words, _) answer (_, (holds, _)).
+      let j = sectionsOf ImagerSpacelook (now words) in
+      (answer ≡ j .number)
+      × (holds ≡ mark (getD (j .holds) 0 false) ∷ mark (getD (j .holds) 1 false) ∷ mark (getD (j .holds) 2 false) ∷ mark (getD (j .holds) 3 false) ∷ []))
+  pub sounder : Every rahmisve_parity_sounder.ended rahmisve_parity_sounder.Reads.Learnt (λ _ (words, _) answer (_, (holds, _)).
+      let j = sectionsOf SounderSpacelook (now words) in
+      (answer ≡ j .number) × (holds ≡ mark (getD (j .holds) 0 false) ∷ mark (getD (j .holds) 1 false) ∷ []))
+  -- time tags; elapsed from the first to the second
+  pub read-tag : Every rahmisve_read_tag.ended rahmisve_read_tag.Reads.Learnt (λ _ (tag, _) answer (_, (numbers, _)).
+      (answer ≡ readTag (now tag) .number) × (numbers ≡ time (readTag (now tag) .tag)))
+  pub write-tag : Every rahmisve_write_tag.ended rahmisve_write_tag.Reads.Learnt (λ _ (numbers, _) answer (_, (tag, _)).
+      let w = writeTag (timeAt 0 (now numbers)) in
+      (answer ≡ w .number) × (tag ≡ w .bytes))
+  pub elapsed : Every rahmisve_elapsed.ended rahmisve_elapsed.Reads.Learnt (λ _ (from, (to, _)) answer (_, (_, (ms, _))).
+      (answer ≡ elapsedOf (now from) (now to) .number) × (ms ≡ elapsedOf (now from) (now to) .ms))
+  -- the scan watch: a limit above 3,600,000 ms is 16, and the watch is as it was
+  pub begin : Every rahmisve_watch_begin.ended rahmisve_watch_begin.Reads.Learnt (λ _ (limit, (row, _)) answer (_, (begun, _)).
+      (limit ≤ 3600000 → (answer ≡ 0) × (begun ≡ 0 ∷ 0 ∷ 0 ∷ 0 ∷ 0 ∷ 0 ∷ 0 ∷ 0 ∷ 0 ∷ limit ∷ []))
+      × (3600000 < limit → (answer ≡ 16) × (begun ≡ now row)))
+  -- refused (0), and as a stray (1), it is as it was
+  pub offer : Every rahmisve_watch_offer.ended rahmisve_watch_offer.Reads.Learnt (λ _ (row, (block, (tag, _))) answer (after, (_, (_, (verdict, _)))).
+      let s = stepOf (watchAt (now row)) block (now tag) in
+      (answer ≡ numberOf (s .verdict)) × (verdict ≡ code (s .verdict)) × (verdict ≤ 1 → after ≡ now row) × (2 ≤ verdict → after ≡ watch (s .next)))
+  -- what a block is made of
+  pub check : Every rahmisve_check_word.ended rahmisve_check_word.Reads.Learnt (λ _ (message, _) answer _. answer ≡ checkWord (now message))
+  -- 6: a size outside 1 to 16. 8: the field has fewer bits. 9: less room
+  pub take : Every rahmisve_take_words.ended rahmisve_take_words.Reads.Learnt (λ _ (field, (size, (count, (room, _)))) answer (_, (_, (_, (words, _)))).
+      FirstOf (6 if ((size < 1) ⊎ (16 < size)) ∷ 8 if (length (now field) * 8 < count * size) ∷ 9 if (length (now room) < count) ∷ []) answer
+      × (answer ≡ 0 → words ≡ wordsOf size count (now field) ++ drop count (now room)) × ((answer ≡ 0 → ⊥) → words ≡ now room))
+  -- 9: the field has fewer bits. 14: a word too large
+  pub put : Every rahmisve_put_words.ended rahmisve_put_words.Reads.Learnt (λ _ (words, (size, (field, _))) answer (_, (_, (filled, _))).
+      FirstOf (6 if ((size < 1) ⊎ (16 < size)) ∷ 9 if (length (now field) * 8 < length (now words) * size) ∷ 14 if (Below (2 ^ size) (now words) → ⊥) ∷ []) answer
+      × (answer ≡ 0 → filled ≡ fieldOf size (length (now field)) (now words)) × ((answer ≡ 0 → ⊥) → filled ≡ now field))
+
+-- Rows of the table, and others, whose numbers all differ, through C.
+pub record RowsFromC : Type 0 where
+  -- a header of block 3, version 2, with 20 words
+  pub plan : Every rahmisve_plan.ended rahmisve_plan.Reads.Learnt (λ _ (header, _) answer left.
+      now header ≡ 3 ∷ 10 ∷ 0 ∷ 22 ∷ 0 ∷ 0 ∷ 0 ∷ 2 ∷ replicate 20 0 → (answer ≡ 0) × (left ≡ (tt, (3, (2, (10, (1, (20, (2680, tt)))))))))
+  -- there is no block 256
+  pub no-place : Every rahmisve_place.ended rahmisve_place.Reads.Learnt (λ _ (block, _) answer left. block ≡ 256 → (answer ≡ 4) × (left ≡ (tt, (tt, (tt, (0, (0, tt)))))))
+  -- tag 19 87 A3 42 14 35 67 89 is 1987 day 234, 21:43:56.789, flywheel on
+  pub read-tag : Every rahmisve_read_tag.ended rahmisve_read_tag.Reads.Learnt (λ _ (tag, _) answer left.
+      now tag ≡ 0x19 ∷ 0x87 ∷ 0xA3 ∷ 0x42 ∷ 0x14 ∷ 0x35 ∷ 0x67 ∷ 0x89 ∷ [] → (answer ≡ 0) × (left ≡ (tt, (1987 ∷ 234 ∷ 21 ∷ 43 ∷ 56 ∷ 789 ∷ 1 ∷ [], tt))))
+  -- row 9: 1 ms later
+  pub row9 : Every rahmisve_elapsed.ended rahmisve_elapsed.Reads.Learnt (λ _ (from, (to, _)) answer left.
+      now from ≡ 0x20 ∷ 0x08 ∷ 0x06 ∷ 0x02 ∷ 0x35 ∷ 0x95 ∷ 0x99 ∷ 0x99 ∷ [] → now to ≡ 0x20 ∷ 0x08 ∷ 0x06 ∷ 0x10 ∷ 0x00 ∷ 0x00 ∷ 0x00 ∷ 0x00 ∷ []
+      → (answer ≡ 0) × (left ≡ (tt, (tt, (pos 1, tt)))))
+  -- block 3 comes to an open watch that expects it, 2,123 ms after the last tag, with the mark off
+  pub kept : Every rahmisve_watch_offer.ended rahmisve_watch_offer.Reads.Learnt (λ _ (row, (block, (tag, _))) answer left.
+      now row ≡ 1 ∷ 3 ∷ 1987 ∷ 234 ∷ 21 ∷ 43 ∷ 56 ∷ 789 ∷ 1 ∷ 5000 ∷ [] → block ≡ 3 → now tag ≡ 0x19 ∷ 0x87 ∷ 0x23 ∷ 0x42 ∷ 0x14 ∷ 0x35 ∷ 0x89 ∷ 0x12 ∷ []
+      → (answer ≡ 0) × (left ≡ (1 ∷ 4 ∷ 1987 ∷ 234 ∷ 21 ∷ 43 ∷ 58 ∷ 912 ∷ 0 ∷ 5000 ∷ [], (tt, (tt, (3, tt))))))
+  -- row 7, in a room of five
+  pub row7 : Every rahmisve_take_words.ended rahmisve_take_words.Reads.Learnt (λ _ (field, (size, (count, (room, _)))) answer left.
+      now field ≡ 0x00 ∷ 0x40 ∷ 0x20 ∷ 0x0C ∷ 0x04 ∷ [] → size ≡ 10 → count ≡ 4 → now room ≡ 9 ∷ 8 ∷ 7 ∷ 6 ∷ 5 ∷ []
+      → (answer ≡ 0) × (left ≡ (tt, (tt, (tt, (1 ∷ 2 ∷ 3 ∷ 4 ∷ 5 ∷ [], tt))))))
