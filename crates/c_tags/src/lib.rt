@@ -1,7 +1,7 @@
 // Time tags, from C. A time is seven numbers: year, day, hour, minute, second, millisecond and the flywheel mark.
 ghost use mathlib.Core.Path.{_≡_};
 ghost use Rattle.tag.specs.Tags.{readTag, writeTag};
-ghost use Rattle.tag.specs.Times.{elapsedOf};
+ghost use Rattle.time.specs.Times.{elapsedOf};
 ghost use Rattle.c_tags.specs.Times.{tagOfNumbers, tagFrom, numbersOf};
 use c_numbers::in_byte;
 use c_numbers::in_pair;
@@ -80,7 +80,7 @@ pub extern "C" fn rahmisve_write_tag(time: &[u32; 7], tag: &mut [u8; 8]) -> u8
 pub extern "C" fn rahmisve_elapsed(from: &[u8], to: &[u8], ms: &mut i64) -> u8
     ensures { λ r. ⌜ record { number = r; ms = now (ms .exit) } ≡ elapsedOf (now (from .entry)) (now (to .entry)) ⌝ }
 {
-    let elapsed = tag::elapsed(from, to);
+    let elapsed = time::elapsed(from, to);
     let between = elapsed.ms;
     *ms = between;
     elapsed.number

@@ -28,10 +28,11 @@ use Rattle.parity.specs.Sections.{sectionsOf}
 use Rattle.parity.specs.declared.Layout.the-variants.{ImagerSpacelook, SounderSpacelook}
 use Rattle.tag.specs.Digits.{digitsOf, decimal, valueOf}
 use Rattle.tag.specs.Tags.{inBounds, tagOf, goodTag, readTag}
-use Rattle.tag.specs.Times.{timeOf, elapsedOf}
+use Rattle.time.specs.Times.{timeOf, elapsedOf}
 use Rattle.tag.specs.declared.Tag.{Tag}
-use Rattle.tag.proofs.KeepsTable.{row9, all-differ}
-use Rattle.tag.proofs.LawsCalendar.{quick}
+use Rattle.tag.proofs.KeepsTable.{all-differ}
+use Rattle.time.proofs.KeepsTable.{row9}
+use Rattle.time.proofs.LawsYears.{quick}
 use Rattle.watch.specs.Verdicts.{numberOf}
 use Rattle.watch.specs.Bounds.{refusalOf}
 use Rattle.watch.specs.Rules.{expecting, inTime, onOpen, onGood, stepOf}

@@ -24,7 +24,7 @@ use Rattle.placement.specs.Placement.{placeOf}
 use Rattle.parity.specs.Sections.{sectionsOf}
 use Rattle.parity.specs.declared.Layout.the-variants.{ImagerSpacelook, SounderSpacelook}
 use Rattle.tag.specs.Tags.{readTag, writeTag}
-use Rattle.tag.specs.Times.{elapsedOf}
+use Rattle.time.specs.Times.{elapsedOf}
 use Rattle.tag.specs.declared.Tag.{Tag}
 use Rattle.watch.specs.Verdicts.{numberOf}
 use Rattle.watch.specs.Rules.{stepOf}

@@ -2,7 +2,8 @@
 -- Assumes nothing.
 use Rattle.bits.proofs.Table.{row7, row8}
 use Rattle.row.proofs.KeepsRows.{row1, row2, row3, row4, row5, row6}
-use Rattle.tag.proofs.KeepsTable.{row9, row10, row11, row12}
+use Rattle.tag.proofs.KeepsTable.{row11}
+use Rattle.time.proofs.KeepsTable.{row9, row10, row12}
 use Rattle.parity.proofs.KeepsParity.{row-13}
 use Rattle.scope.specs.Table.{TableToProve}
 

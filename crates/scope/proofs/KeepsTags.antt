@@ -19,7 +19,7 @@ use Rattle.bits.proofs.LawsBelow.{below-at}
 use Rattle.tag.specs.Calendar.{leap, daysIn, daysBefore}
 use Rattle.tag.specs.Digits.{digitsOf}
 use Rattle.tag.specs.Tags.{tagDigits, tagOf, bytesOf, inBounds, goodTag, readTag, writeTag}
-use Rattle.tag.specs.Times.{timeOf, between, elapsedOf}
+use Rattle.time.specs.Times.{timeOf, between, elapsedOf}
 use Rattle.tag.specs.Promises.{IsTag, Bounded}
 use Rattle.tag.specs.declared.Tag.{Tag}
 use Rattle.tag.specs.declared.TagRead.{TagRead}
@@ -27,9 +27,9 @@ use Rattle.tag.specs.declared.TagBytes.{TagBytes}
 use Rattle.tag.specs.declared.time.Elapsed.{Elapsed}
 use Rattle.tag.proofs.LawsTags.{tag, says, spells-out, good-bounds, reads, refuses}
 use Rattle.tag.proofs.LawsBounds.{facts, tests, day-below}
-use Rattle.tag.proofs.LawsTimes.{minus, answer, counted, not-counted}
+use Rattle.time.proofs.LawsTimes.{minus, answer, counted, not-counted}
 use Rattle.tag.proofs.KeepsTags as Kept
-use Rattle.tag.proofs.KeepsTimes as Times
+use Rattle.time.proofs.KeepsTimes as Times
 use Rattle.scope.specs.Notions.{_if_, FirstOf}
 use Rattle.scope.specs.Tags.{digits, digit, Says, LeapYear, Bounds, Bad, ofDay, Reading, Writing, Elapsing}
 use Rattle.scope.proofs.LawsReasons.{Tells, told-as, tells-true, tells-eq, tells-not, tells-both, tells-either, decided}

@@ -14,7 +14,7 @@ use borrow.Author.Tests.{eqb-true, ne-eqb, not-true, not-false}
 use Rattle.ground.specs.Choice.{pick}
 use Rattle.ground.proofs.LawsTests.{never}
 use Rattle.tag.specs.Tags.{tagOf, goodTag}
-use Rattle.tag.specs.Times.{between}
+use Rattle.time.specs.Times.{between}
 use Rattle.tag.specs.declared.Tag.{Tag}
 use Rattle.watch.specs.Verdicts.{numberOf, completes}
 use Rattle.watch.specs.Bounds.{grounds, refusalOf}

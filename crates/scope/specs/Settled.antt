@@ -33,8 +33,8 @@ use Rattle.tag.proofs.in_bounds
 use Rattle.tag.proofs.zero_tag
 use Rattle.tag.proofs.read_tag
 use Rattle.tag.proofs.write_tag
-use Rattle.tag.proofs.between
-use Rattle.tag.proofs.elapsed
+use Rattle.time.proofs.between
+use Rattle.time.proofs.elapsed
 use Rattle.watch.proofs.begin
 use Rattle.watch.proofs.step
 use Rattle.watch.proofs.offer
@@ -111,6 +111,7 @@ pub record AllSettled : Type 0 where
   pub zero-tag : Settled zero_tag.ended zero_tag.Reads.Learnt
   pub read-tag : Settled read_tag.ended read_tag.Reads.Learnt
   pub write-tag : Settled write_tag.ended write_tag.Reads.Learnt
+  -- time
   pub between : Settled between.ended between.Reads.Learnt
   pub elapsed : Settled elapsed.ended elapsed.Reads.Learnt
   -- watch

@@ -4,7 +4,8 @@ use mathlib.Core.Path.{_≡_}
 use mathlib.Core.List.{[], _∷_}
 use Rattle.bits.specs.Fields.{wordsOf}
 use Rattle.row.specs.Promises.{Measures}
-use Rattle.tag.specs.Table.{Row9, Row10, Row11, Row12}
+use Rattle.tag.specs.Table.{Row11}
+use Rattle.time.specs.Table.{Row9, Row10, Row12}
 use Rattle.parity.specs.Promises.{Row13}
 
 pub record TableToProve : Type 0 where

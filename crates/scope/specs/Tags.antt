@@ -9,7 +9,7 @@ use lib.IntN.{pos, _-ℤ_, negℤ, _+ℤ_}
 use lib.ListN.{length, getD, replicate}
 use Rattle.bits.specs.Bits.{Below}
 use Rattle.tag.specs.Tags.{inBounds, readTag, writeTag}
-use Rattle.tag.specs.Times.{between, elapsedOf}
+use Rattle.time.specs.Times.{between, elapsedOf}
 use Rattle.tag.specs.declared.Tag.{Tag}
 use Rattle.scope.specs.Notions.{_if_, FirstOf, word}
 

@@ -7,7 +7,7 @@ use mathlib.Core.Bool.{true, false}
 use mathlib.Core.List.{List, [], _∷_}
 use lib.IntN.{pos}
 use lib.Signed.{_≤ℤ_, _<ℤ_}
-use Rattle.tag.specs.Times.{between, elapsedOf}
+use Rattle.time.specs.Times.{between, elapsedOf}
 use Rattle.tag.specs.declared.Tag.{Tag}
 use Rattle.watch.specs.Verdicts.{numberOf}
 use Rattle.watch.specs.Rules.{beginOf, stepOf}

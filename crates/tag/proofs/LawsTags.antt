@@ -149,6 +149,3 @@ accepted s = by (goodTag s) refl
     by : (b : Bool) → goodTag s ≡ b → eqb (readTag s .number) 0 ≡ b
     by true h = ap (λ (r : TagRead). eqb (r .number) 0) (reads s h)
     by false h = ap (λ (r : TagRead). eqb (r .number) 0) (refuses s h)
-
-pub both-accepted : (a b : List ℕ) {r q : TagRead} → r ≡ readTag a → q ≡ readTag b → eqb (r .number) 0 && eqb (q .number) 0 ≡ goodTag a && goodTag b
-both-accepted a b e f = (λ i. eqb (e i .number) 0 && eqb (f i .number) 0) ∙ (λ i. accepted a i && accepted b i)

@@ -1,6 +1,6 @@
--- The Gregorian calendar, throughout: leap years, the days of a year, and the days of all years before it, from year 0.
+-- The Gregorian calendar, throughout: leap years and the days of a year.
 -- Assumes nothing.
-use Prim.Native.Nat.{ℕ, zero, suc, _+_, _%_}
+use Prim.Native.Nat.{ℕ, _%_}
 use mathlib.Core.Bool.{Bool, not, _&&_, _||_}
 use lib.Dec.{eqb}
 use Rattle.ground.specs.Choice.{pick}
@@ -12,8 +12,3 @@ leap y = eqb (y % 400) 0 || (not (eqb (y % 100) 0) && eqb (y % 4) 0)
 -- A year's days are 365, 366 in a leap year.
 abbrev pub daysIn : ℕ → ℕ
 daysIn y = pick (leap y) 366 365
-
--- The days before a year, counted year by year.
-unfoldable pub daysBefore : ℕ → ℕ
-daysBefore zero = 0
-daysBefore (suc y) = daysBefore y + daysIn y

@@ -16,12 +16,6 @@ const LAST_DIGIT: u8 = 9;
 // The first bit of byte 3.
 const MARK: u8 = 128;
 
-fn wide(n: u8) -> u16
-    ensures { λ r. ⌜ r ≡ n ⌝ }
-{
-    n as u16
-}
-
 fn without_mark(third: u8) -> u8
     ensures { λ r. ⌜ r ≡ third % 128 ⌝ }
 {
@@ -49,7 +43,7 @@ pub(crate) fn are_decimal(a: u8, b: u8, c: u8, d: u8, e: u8, f: u8, g: u8, h: u8
 fn pair(b: u8) -> u16
     ensures { λ r. ⌜ r ≡ b / 16 * 10 + b % 16 ⌝ }
 {
-    wide(b / 16 * 10 + b % 16)
+    (b / 16 * 10 + b % 16) as u16
 }
 
 // The number of the last digit of a byte and the first of the next.
@@ -70,14 +64,14 @@ fn four(a: u8, b: u8) -> u16
 fn three_to(a: u8, b: u8) -> u16
     ensures { λ r. ⌜ r ≡ (a / 16 * 10 + a % 16) * 10 + b / 16 ⌝ }
 {
-    pair(a) * 10 + wide(b / 16)
+    pair(a) * 10 + (b / 16) as u16
 }
 
 // Three digits: the last digit of a byte and the next byte.
 fn three_from(a: u8, b: u8) -> u16
     ensures { λ r. ⌜ r ≡ a % 16 * 100 + (b / 16 * 10 + b % 16) ⌝ }
 {
-    wide(a % 16) * 100 + pair(b)
+    (a % 16) as u16 * 100 + pair(b)
 }
 
 // What eight bytes say, digits above 9 and numbers out of bounds among them.
@@ -124,10 +118,10 @@ pub(crate) fn bytes_of(tag: Tag) -> [u8; 8]
     let a = packed(tag.year / 100);
     let b = packed(tag.year);
     let c = with_mark(tag.flywheel, packed(tag.day / 10));
-    let d = joined(tag.day, wide(tag.hour));
-    let e = joined(wide(tag.hour), wide(tag.minute));
-    let f = joined(wide(tag.minute), wide(tag.second));
-    let g = joined(wide(tag.second), tag.ms / 10);
+    let d = joined(tag.day, tag.hour as u16);
+    let e = joined(tag.hour as u16, tag.minute as u16);
+    let f = joined(tag.minute as u16, tag.second as u16);
+    let g = joined(tag.second as u16, tag.ms / 10);
     let h = packed(tag.ms);
     [a, b, c, d, e, f, g, h]
 }

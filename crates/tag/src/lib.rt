@@ -1,15 +1,13 @@
-// CDA time tags: eight bytes of BCD digits to numbers and the flywheel mark, numbers and mark to eight bytes, and the time
-// from one tag to another. What a good tag is and what it means stands in specs/, what is promised in specs/Promises.antt.
+// CDA time tags: eight bytes of BCD digits to numbers and the flywheel mark, and back. What a good tag is and what it means stands
+// in specs/, what is promised in specs/Promises.antt.
 ghost use mathlib.Core.Path.{_≡_};
 ghost use mathlib.Core.List.{[], _∷_};
 ghost use Rattle.tag.specs.Tags.{inBounds, readTag, writeTag, zeroTag};
-ghost use Rattle.tag.specs.Times.{between, elapsedOf};
 
-mod calendar; // leap years, the days of a year and before it
+mod calendar; // leap years, the days of a year
 mod digits; // numbers and the mark out of eight bytes, and back
-mod time; // milliseconds
 
-pub use time::Elapsed;
+pub use calendar::DAYS;
 
 // The numbers of a tag and its mark. Any are held; `in_bounds` says whether they are a tag's.
 pub struct Tag {
@@ -132,37 +130,6 @@ pub fn write_tag(tag: Tag) -> TagBytes
         TagBytes {
             number: ground::BAD_TAG,
             bytes: bytes,
-        }
-    }
-}
-
-// The time from one tag to a second, of any numbers: negative where the second is earlier.
-pub fn between(from: Tag, to: Tag) -> i64
-    ensures { λ r. ⌜ r ≡ between from to ⌝ }
-{
-    let start = time::milliseconds(from);
-    let end = time::milliseconds(to);
-    end as i64 - start as i64
-}
-
-// The same of two tags as lent bytes.
-pub fn elapsed(from: &[u8], to: &[u8]) -> Elapsed
-    ensures { λ r. ⌜ r ≡ elapsedOf (now (from .entry)) (now (to .entry)) ⌝ }
-{
-    let first = read_tag(from);
-    let second = read_tag(to);
-    if time::both_good(first.number, second.number) {
-        let start = first.tag;
-        let end = second.tag;
-        let ms = between(start, end);
-        Elapsed {
-            number: ground::ACCEPTED,
-            ms: ms,
-        }
-    } else {
-        Elapsed {
-            number: ground::BAD_TAG,
-            ms: 0,
         }
     }
 }

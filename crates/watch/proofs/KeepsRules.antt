@@ -12,7 +12,7 @@ use borrow.Author.Tests.{eq-eqb, ne-eqb, le-ltb, lt-ltb}
 use Rattle.ground.specs.Choice.{pick}
 use Rattle.ground.proofs.LawsChoice.{yes, no, either}
 use Rattle.tag.specs.Tags.{tagOf, inBounds, goodTag}
-use Rattle.tag.specs.Times.{between}
+use Rattle.time.specs.Times.{between}
 use Rattle.ground.proofs.LawsTests.{never}
 use Rattle.watch.specs.Verdicts.{numberOf, closes}
 use Rattle.watch.specs.Bounds.{longestWait, lastOfScan, lastBlock, refusalOf}

@@ -15,12 +15,12 @@ use borrow.Author.Tests.{eqb-true, eq-eqb, ne-eqb, le-ltb}
 use Rattle.ground.specs.Choice.{pick}
 use Rattle.ground.proofs.LawsChoice.{either}
 use Rattle.tag.specs.Tags.{tagOf, goodTag, inBounds}
-use Rattle.tag.specs.Times.{timeOf, between, elapsedOf}
+use Rattle.time.specs.Times.{timeOf, between, elapsedOf}
 use Rattle.tag.specs.declared.Tag.{Tag}
-use Rattle.tag.specs.declared.time.Elapsed.{Elapsed}
+use Rattle.time.specs.declared.count.Elapsed.{Elapsed}
 use Rattle.ground.proofs.LawsTests.{both, first, second, not-second, never}
 use Rattle.tag.proofs.LawsTags.{good-bounds}
-use Rattle.tag.proofs.LawsTimes.{at-least-zero, at-most, not-back, not-late, answer, counted}
+use Rattle.time.proofs.LawsTimes.{at-least-zero, at-most, not-back, not-late, answer, counted}
 use Rattle.tag.proofs.KeepsTags.{good}
 use Rattle.watch.specs.Verdicts.{numberOf, isComplete, completes}
 use Rattle.watch.specs.Bounds.{longestWait, lastOfScan, lastBlock, badLimit, badExpected, badLast, refusalOf}

@@ -10,7 +10,7 @@ use lib.Signed.{ltZ}
 use borrow.Author.Tests.{eqb-true, eqb-false, not-false}
 use Rattle.ground.proofs.LawsChoice.{either}
 use Rattle.tag.specs.Tags.{tagOf}
-use Rattle.tag.specs.Times.{between}
+use Rattle.time.specs.Times.{between}
 use Rattle.tag.specs.declared.Tag.{Tag}
 use Rattle.watch.specs.Bounds.{lastOfScan, refusalOf}
 use Rattle.watch.specs.Rules.{expecting, closing, onIdle, inTime, onOpen, onGood, stepOf}

@@ -8,7 +8,7 @@ use mathlib.Core.List.{List, _∷_, _++_}
 use lib.IntN.{ℤ, pos}
 use lib.Signed.{_≤ℤ_, _<ℤ_}
 use Rattle.tag.specs.Tags.{tagOf}
-use Rattle.tag.specs.Times.{between, elapsedOf}
+use Rattle.time.specs.Times.{between, elapsedOf}
 use Rattle.tag.specs.Promises.{IsTag}
 use Rattle.watch.specs.Verdicts.{numberOf, closes, completes}
 use Rattle.watch.specs.Bounds.{refusalOf}

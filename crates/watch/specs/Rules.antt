@@ -8,7 +8,7 @@ use lib.IntN.{ℤ, pos}
 use lib.Signed.{ltZ}
 use Rattle.ground.specs.Choice.{pick}
 use Rattle.tag.specs.Tags.{zeroTag, tagOf}
-use Rattle.tag.specs.Times.{between}
+use Rattle.time.specs.Times.{between}
 use Rattle.tag.specs.declared.Tag.{Tag}
 use Rattle.watch.specs.Bounds.{longestWait, lastOfScan, refusalOf}
 use Rattle.watch.specs.declared.Watch.{Watch}

@@ -121,7 +121,7 @@ pub(crate) fn on_good(w: Watch, block: u8, t: Tag) -> Stepped
 {
     if w.opened {
         let last = w.last;
-        let d = tag::between(last, t);
+        let d = time::between(last, t);
         on_open(w, block, t, d)
     } else {
         on_idle(w, block, t)

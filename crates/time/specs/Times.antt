@@ -5,10 +5,10 @@ use mathlib.Core.Bool.{_&&_}
 use mathlib.Core.List.{List}
 use lib.IntN.{ℤ, pos, _-ℤ_}
 use Rattle.ground.specs.Choice.{pick}
-use Rattle.tag.specs.Calendar.{daysBefore}
 use Rattle.tag.specs.Tags.{goodTag, tagOf}
 use Rattle.tag.specs.declared.Tag.{Tag}
-use Rattle.tag.specs.declared.time.Elapsed.{Elapsed}
+use Rattle.time.specs.Years.{daysBefore}
+use Rattle.time.specs.declared.count.Elapsed.{Elapsed}
 
 -- Milliseconds from the midnight that begins the day before day 1 of year 0. The flywheel mark doesn't enter.
 unfoldable pub timeOf : Tag → ℕ

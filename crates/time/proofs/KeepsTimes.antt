@@ -11,21 +11,23 @@ use lib.Dec.{eqb}
 use lib.ListN.{getD, length-set}
 use lib.IntN.{ℤ, pos, negℤ, _+ℤ_, _-ℤ_, +ℤ-assoc, +ℤ-comm, +ℤ-invr, negℤ-+ℤ, negℤ-negℤ, -ℤ-+ℤ-cancel}
 use Rattle.ground.specs.Choice.{pick}
-use Rattle.tag.specs.Calendar.{daysIn, daysBefore}
+use Rattle.tag.specs.Calendar.{daysIn}
+use Rattle.time.specs.Years.{daysBefore}
 use Rattle.tag.specs.Digits.{digitsOf, decimal}
 use Rattle.tag.specs.Tags.{unmarked, tagDigits, part, tagOf, inBounds, goodTag}
-use Rattle.tag.specs.Times.{timeOf, between, elapsedOf}
-use Rattle.tag.specs.Promises.{Bounded, Earlier, by-year, by-day, by-hour, by-minute, by-second, by-ms, SameTime, Elapsing, Quick}
+use Rattle.time.specs.Times.{timeOf, between, elapsedOf}
+use Rattle.tag.specs.Promises.{Bounded}
+use Rattle.time.specs.Promises.{Earlier, by-year, by-day, by-hour, by-minute, by-second, by-ms, SameTime, Elapsing, Quick}
 use Rattle.tag.specs.declared.Tag.{Tag}
 use Rattle.ground.proofs.LawsTests.{not-second}
-use Rattle.tag.proofs.LawsCalendar as Calendar
+use Rattle.time.proofs.LawsYears as Years
 use Rattle.tag.proofs.LawsTags.{tag}
-use Rattle.tag.proofs.LawsTimes as Times
-use Rattle.tag.proofs.LawsTimes.{answer, counted, not-counted}
+use Rattle.time.proofs.LawsTimes as Times
+use Rattle.time.proofs.LawsTimes.{answer, counted, not-counted}
 use Rattle.tag.proofs.KeepsTags.{good, bad}
 
 pub quick : Quick
-quick = Calendar.quick
+quick = Years.quick
 
 -- ---- integers
 

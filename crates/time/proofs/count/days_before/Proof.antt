@@ -1,9 +1,9 @@
--- `tag::calendar::days_before` computes the quick formula, which is the count year by year.
+-- `time::count::days_before` computes the quick formula, which is the count year by year.
 -- Assumes nothing.
 use borrow.Author.Needs.{needs}
-use Rattle.tag.proofs.LawsCalendar.{quick}
-use Rattle.tag.proofs.calendar.days_before.Statement.{statement}
-use Rattle.tag.proofs.calendar.days_before.Tie as tie
+use Rattle.time.proofs.LawsYears.{quick}
+use Rattle.time.proofs.count.days_before.Statement.{statement}
+use Rattle.time.proofs.count.days_before.Tie as tie
 
 returns : tie.Need-returns
 returns c = quick (c .args .year)

@@ -1,9 +1,9 @@
--- `tag::time::milliseconds` counts days, hours, minutes, seconds and milliseconds as the definition does; no sum is too large.
+-- `time::count::milliseconds` counts days, hours, minutes, seconds and milliseconds as the definition does; no sum is too large.
 -- Assumes nothing.
 use borrow.Author.Needs.{needs}
-use Rattle.tag.specs.Times.{timeOf}
-use Rattle.tag.proofs.time.milliseconds.Statement.{statement}
-use Rattle.tag.proofs.time.milliseconds.Tie as tie
+use Rattle.time.specs.Times.{timeOf}
+use Rattle.time.proofs.count.milliseconds.Statement.{statement}
+use Rattle.time.proofs.count.milliseconds.Tie as tie
 
 returns : tie.Need-returns
 unfolding timeOf

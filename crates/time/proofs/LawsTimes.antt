@@ -6,7 +6,7 @@ use Prim.Native.Nat.{ℕ, zero, suc, _+_, _-_, _≤_, _<_, _^_}
 use native.Mathlib.Omega.{arith}
 use mathlib.Core.Bool.{Bool, true, false, cond, _&&_}
 use mathlib.Core.List.{List}
-use lib.Dec.{ltb, le→leb, lt→ltb}
+use lib.Dec.{eqb, ltb, le→leb, lt→ltb}
 use lib.IntN.{ℤ, pos, negsuc, subℕ, _-ℤ_}
 use lib.Signed.{mag, ltZ, _<ℤ_, _≤ℤ_, ltZ-yes, leZ-yes}
 use mir.Syntax.{w64}
@@ -15,10 +15,12 @@ use mir.Facts.{toZ-pos, toZ-ofZ}
 use borrow.Author.Needs.{sfits-of}
 use borrow.Author.Tests.{lt-ltb, le-ltb, ltb-true, ltb-false}
 use Rattle.ground.specs.Choice.{pick}
-use Rattle.tag.specs.Tags.{tagOf, goodTag}
-use Rattle.tag.specs.Times.{timeOf, between, elapsedOf}
+use Rattle.tag.specs.Tags.{tagOf, goodTag, readTag}
+use Rattle.tag.specs.declared.TagRead.{TagRead}
+use Rattle.tag.proofs.LawsTags.{accepted}
+use Rattle.time.specs.Times.{timeOf, between, elapsedOf}
 use Rattle.tag.specs.declared.Tag.{Tag}
-use Rattle.tag.specs.declared.time.Elapsed.{Elapsed}
+use Rattle.time.specs.declared.count.Elapsed.{Elapsed}
 use Rattle.ground.proofs.LawsTests.{never}
 
 pub minus : (a b : ℕ) → pos a -ℤ pos b ≡ subℕ a b
@@ -85,3 +87,7 @@ counted a b p q = λ i. pick (p i && q i) (answer 0 (between (tagOf a) (tagOf b)
 pub not-counted : (a b : List ℕ) → goodTag a && goodTag b ≡ false → elapsedOf a b ≡ answer 12 (pos 0)
 unfolding elapsedOf
 not-counted a b h = ap (λ (t : Bool). pick t (answer 0 (between (tagOf a) (tagOf b))) (answer 12 (pos 0))) h
+
+-- An answer of 0 to each says that both tags are good.
+pub both-accepted : (a b : List ℕ) {r q : TagRead} → r ≡ readTag a → q ≡ readTag b → eqb (r .number) 0 && eqb (q .number) 0 ≡ goodTag a && goodTag b
+both-accepted a b e f = (λ i. eqb (e i .number) 0 && eqb (f i .number) 0) ∙ (λ i. accepted a i && accepted b i)

@@ -9,7 +9,8 @@ use lib.Arith.{digits-div}
 use lib.Dec.{eqb}
 use borrow.Author.Tests.{eqb-true, eqb-false, eq-eqb}
 use Rattle.ground.specs.Choice.{pick}
-use Rattle.tag.specs.Calendar.{daysIn, daysBefore}
+use Rattle.tag.specs.Calendar.{daysIn}
+use Rattle.time.specs.Years.{daysBefore}
 use Rattle.ground.proofs.LawsTests.{never}
 
 -- The multiples of p + 1 below y are (y + p) / (p + 1); below the next year there is one more where y is one.

@@ -3,9 +3,9 @@ ghost use mathlib.Core.Path.{_≡_};
 ghost use mathlib.Core.Bool.{_&&_};
 ghost use Prim.Native.Nat.{_<_, _^_};
 ghost use lib.Dec.{eqb};
-ghost use Rattle.tag.specs.Times.{timeOf};
-use crate::Tag;
-use crate::calendar;
+ghost use Rattle.time.specs.Years.{daysBefore};
+ghost use Rattle.time.specs.Times.{timeOf};
+use tag::Tag;
 
 // What the time between two lent tags answers: 0 and the milliseconds, or 12 and zero.
 pub struct Elapsed {
@@ -21,11 +21,19 @@ const SECONDS: u64 = 60;
 
 const MS: u64 = 1000;
 
+// The days of all years before one: a day more for each multiple of 4 and of 400 below it, one less for each of 100.
+fn days_before(year: u16) -> u32
+    ensures { λ r. ⌜ r ≡ daysBefore year ⌝ }
+{
+    let n = year as u32;
+    tag::DAYS as u32 * n + (n + 3) / 4 + (n + 399) / 400 - (n + 99) / 100
+}
+
 // Milliseconds to a tag's time, for any numbers in it; the difference of two fits an i64.
 pub(crate) fn milliseconds(tag: Tag) -> u64
     ensures { λ r. ⌜ (r ≡ timeOf tag) × (r < 2 ^ 62) ⌝ }
 {
-    let days = calendar::days_before(tag.year) as u64 + tag.day as u64;
+    let days = days_before(tag.year) as u64 + tag.day as u64;
     let hours = days * HOURS + tag.hour as u64;
     let minutes = hours * MINUTES + tag.minute as u64;
     let seconds = minutes * SECONDS + tag.second as u64;

@@ -1,17 +1,17 @@
--- `tag::elapsed` reads both tags, and an answer of 0 to each says that it is good.
+-- `time::elapsed` reads both tags, and an answer of 0 to each says that it is good.
 -- Assumes nothing.
 use mathlib.Core.Path.{ap, sym, _∙_}
 use lib.IntN.{ℤ}
 use mir.Syntax.{w64}
 use mir.Facts.{toZ-ofZ}
 use borrow.Author.Needs.{needs, sfits-of}
 use Rattle.tag.specs.Tags.{goodTag}
-use Rattle.tag.specs.Times.{between}
+use Rattle.time.specs.Times.{between}
 use Rattle.ground.proofs.LawsTests.{first, second}
-use Rattle.tag.proofs.LawsTags.{reads, both-accepted}
-use Rattle.tag.proofs.LawsTimes.{answer, counted, not-counted}
-use Rattle.tag.proofs.elapsed.Statement.{statement}
-use Rattle.tag.proofs.elapsed.Tie as tie
+use Rattle.tag.proofs.LawsTags.{reads}
+use Rattle.time.proofs.LawsTimes.{answer, counted, not-counted, both-accepted}
+use Rattle.time.proofs.elapsed.Statement.{statement}
+use Rattle.time.proofs.elapsed.Tie as tie
 
 returns : tie.Need-returns
 returns c =

@@ -1,10 +1,10 @@
--- `tag::between` subtracts two counts below 2 ^ 62, so the difference is exact.
+-- `time::between` subtracts two counts below 2 ^ 62, so the difference is exact.
 -- Assumes nothing.
 use mathlib.Core.Path.{_∙_}
 use borrow.Author.Needs.{needs}
-use Rattle.tag.proofs.LawsTimes.{fits, exact}
-use Rattle.tag.proofs.between.Statement.{statement}
-use Rattle.tag.proofs.between.Tie as tie
+use Rattle.time.proofs.LawsTimes.{fits, exact}
+use Rattle.time.proofs.between.Statement.{statement}
+use Rattle.time.proofs.between.Tie as tie
 
 sub-result : tie.Need-sub-result
 sub-result c = fits (c .milliseconds2 .result) (c .before .milliseconds .result) (c .milliseconds2 .ensures .1) (c .before .milliseconds .ensures .1)

@@ -1,0 +1,4 @@
+pub mod LawsYears
+pub mod LawsTimes
+pub mod KeepsTimes
+pub mod KeepsTable

@@ -1,0 +1,4 @@
+pub mod Years
+pub mod Times
+pub mod Promises
+pub mod Table
