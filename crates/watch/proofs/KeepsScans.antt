@@ -12,29 +12,30 @@ use lib.Dec.{eqb}
 use lib.IntN.{ℤ, pos}
 use lib.Signed.{_≤ℤ_}
 use borrow.Author.Tests.{eqb-true, eq-eqb, ne-eqb, le-ltb}
-use Rattle.ground.specs.Choice.{pick}
 use Rattle.ground.proofs.LawsChoice.{either}
+use Rattle.ground.proofs.LawsGrounds.{none-first, none-append}
+use Rattle.row.specs.Rows.{lastBlock}
 use Rattle.tag.specs.Tags.{tagOf, goodTag, inBounds}
 use Rattle.time.specs.Times.{timeOf, between, elapsedOf}
 use Rattle.tag.specs.declared.Tag.{Tag}
 use Rattle.time.specs.declared.count.Elapsed.{Elapsed}
 use Rattle.ground.proofs.LawsTests.{both, first, second, not-second, never}
+use Rattle.tag.specs.Promises.{IsTag}
 use Rattle.tag.proofs.LawsTags.{good-bounds}
+use Rattle.tag.proofs.LawsBounds.{facts}
 use Rattle.time.proofs.LawsTimes.{at-least-zero, at-most, not-back, not-late, answer, counted}
 use Rattle.tag.proofs.KeepsTags.{good}
-use Rattle.watch.specs.Verdicts.{numberOf, isComplete, completes}
-use Rattle.watch.specs.Bounds.{longestWait, lastOfScan, lastBlock, badLimit, badExpected, badLast, refusalOf}
+use Rattle.watch.specs.Verdicts.{numberOf, closingKind, kindOf}
+use Rattle.watch.specs.Bounds.{longestWait, lastOfScan, badLimit, badExpected, badLast, lent, offered, grounds, refusalOf}
 use Rattle.watch.specs.Rules.{idle, expecting}
 use Rattle.watch.specs.Offers.{Offer, nextOf, verdictOf, after, begins, noneBegins, offerOf, blocksBefore}
 use Rattle.watch.specs.Promises.{InTime, BegunBy, Scan, AnyOffers}
 use Rattle.watch.specs.declared.Watch.{Watch}
 use Rattle.watch.specs.declared.Closing.{Closing}
-use Rattle.watch.specs.declared.Closing.the-variants.{Complete}
-use Rattle.watch.specs.declared.Verdict.the-variants.{Closed}
 use Rattle.watch.specs.declared.Stepped.{Stepped}
 use Rattle.watch.proofs.LawsRules.{accepted-for, from-one, to-ten}
 use Rattle.watch.proofs.LawsTurn.{Timely, Turn, refuses, strays, opens, closes, keeps, Why, back, late, broken, complete, turn}
-use Rattle.watch.proofs.KeepsRules.{one-offer, accepted-offer}
+use Rattle.watch.proofs.KeepsRules.{by-refusal, accepted-offer}
 
 -- ---- a list of offers and one more
 
@@ -95,7 +96,7 @@ first-good w os B =
     let v = after w (B .earlier) in
     let o = B .first in
     accepted-for v (o .block) (o .tag)
-    (sym (one-offer .number v (o .block) (o .tag)) ∙ eqb-true (numberOf (verdictOf v o)) 0 (second (eqb (o .block) 0) _ (B .begun))) .tag
+    (sym (by-refusal v (o .block) (o .tag)) ∙ eqb-true (numberOf (verdictOf v o)) 0 (second (eqb (o .block) 0) _ (B .begun))) .tag
 
 module _ (l : ℕ) (os : List Offer) (o : Offer) where
   abbrev w : Watch
@@ -111,7 +112,7 @@ module _ (l : ℕ) (os : List Offer) (o : Offer) where
   longer = os ++ (o ∷ [])
 
   number : numberOf (verdictOf w o) ≡ refusalOf w b (o .tag)
-  number = one-offer .number w b (o .tag)
+  number = by-refusal w b (o .tag)
 
   is-first : b ≡ 0 → refusalOf w b (o .tag) ≡ 0 → begins w o ≡ true
   is-first z e = both (eq-eqb b 0 z) (eq-eqb (numberOf (verdictOf w o)) 0 (number ∙ e))
@@ -180,18 +181,18 @@ module _ (l : ℕ) (os : List Offer) (o : Offer) where
           soon = subst (λ (a : Elapsed). a .ms ≤ℤ pos (10 * l)) (sym d) (at-most (tagOf x) t (10 * l) low high);
         }
 
-    why-complete : refusalOf w b (o .tag) ≡ 0 → w .opened ≡ true → {why : Closing} → Why w b t why → isComplete why ≡ true → Scan l os o
-    why-complete e i (back f) h = never h
-    why-complete e i (late f) h = never h
-    why-complete e i broken h = never h
+    why-complete : refusalOf w b (o .tag) ≡ 0 → w .opened ≡ true → {why : Closing} → Why w b t why → closingKind why ≡ 7 → Scan l os o
+    why-complete e i (back f) h = absurd (omega arith)
+    why-complete e i (late f) h = absurd (omega arith)
+    why-complete e i broken h = absurd (omega arith)
     why-complete e i (complete m q n) h = ends e i m q n
 
-    scan : {r : Stepped} → Turn w b (o .tag) r → completes (r .verdict) ≡ true → Scan l os o
-    scan (refuses n) h = never h
-    scan (strays e i n) h = never h
-    scan (opens e z) h = never h
+    scan : {r : Stepped} → Turn w b (o .tag) r → kindOf (r .verdict) ≡ 7 → Scan l os o
+    scan (refuses n) h = absurd (omega arith)
+    scan (strays e i n) h = absurd (omega arith)
+    scan (opens e z) h = absurd (omega arith)
     scan (closes e i y) h = why-complete e i y h
-    scan (keeps e i m q n) h = never h
+    scan (keeps e i m q n) h = absurd (omega arith)
 
 holds : (l : ℕ) (xs os : List Offer) → Inv l xs (after (idle l) xs) → Inv l (xs ++ os) (after (idle l) (xs ++ os))
 holds l xs [] I = subst (λ (zs : List Offer). Inv l zs (after (idle l) zs)) (sym (append-nil xs)) I
@@ -233,7 +234,8 @@ bound-after (o ∷ os) w B = bound-after os (nextOf w o) (stays-bound w (o .bloc
 
 none-holds : (w : Watch) (b : ℕ) (s : List ℕ) → Bound w → b ≤ lastBlock → goodTag s ≡ true → refusalOf w b s ≡ 0
 unfolding refusalOf
-none-holds w b s B k g = λ i. pick (B .limit i) 16 (pick (B .expected i) 13 (pick (B .last i) 12 (pick (le-ltb lastBlock b k i) 4 (pick (not (g i)) 12 0))))
+none-holds w b s B k g =
+    none-first (grounds w b (goodTag s)) (none-append (lent w) (offered b (goodTag s)) (B .limit, (B .expected, (B .last, tt))) (le-ltb lastBlock b k, (ap not g, tt)))
 
 -- ---- a whole scan
 
@@ -241,48 +243,49 @@ taken-number : (l : ℕ) (os : List Offer) (o : Offer) → l ≤ longestWait →
 taken-number l os o k b g =
     none-holds (after (idle l) os) (o .block) (o .tag) (bound-after os (idle l) (record { limit = le-ltb longestWait l k; expected = refl; last = refl })) b g
 
-module _ (l : ℕ) (tag : ℕ → List ℕ) (k : l ≤ longestWait) (tagged : (k : ℕ) → k ≤ lastOfScan → goodTag (tag k) ≡ true)
-    (wait : (k : ℕ) → k < lastOfScan → (pos 0 ≤ℤ between (tagOf (tag k)) (tagOf (tag (suc k)))) × (between (tagOf (tag k)) (tagOf (tag (suc k))) ≤ℤ pos l)) where
+module _ (l : ℕ) (tag : ℕ → List ℕ) (k : l ≤ longestWait) (tagged : (k : ℕ) → k ≤ 10 → IsTag (tag k))
+    (wait : (k : ℕ) → k < 10 → (pos 0 ≤ℤ between (tagOf (tag k)) (tagOf (tag (suc k)))) × (between (tagOf (tag k)) (tagOf (tag (suc k))) ≤ℤ pos l)) where
   -- the watch once blocks 0 to n were offered
   abbrev standing : ℕ → Watch
   standing n = expecting (suc n) (tagOf (tag n)) l
 
   -- the next offer is in time
-  timely : (n : ℕ) → n < lastOfScan → after (idle l) (blocksBefore (suc n) tag) ≡ standing n → InTime (standing n) (suc n) (tag (suc n))
-  timely n h e = record {
+  timely : (n : ℕ) → n < 10 → InTime (standing n) (suc n) (tag (suc n))
+  timely n h = record {
     taken = record {
       opened = refl;
-      accepted =
-          subst (λ (v : Watch). refusalOf v (suc n) (tag (suc n)) ≡ 0) e
-          (taken-number l (blocksBefore (suc n) tag) (offerOf tag (suc n)) k (omega arith) (tagged (suc n) (omega arith)));
+      sound = record {
+        watch = record { limit = k; expected = λ o. (omega arith, omega arith); last = λ o. facts (tagOf (tag n)) (good-bounds (tag n) (good (tag n) (tagged n (omega arith)))) };
+        block = omega arith;
+        tag = tagged (suc n) (omega arith);
+      };
     };
     forward = wait n h .0;
     soon = wait n h .1;
   }
 
-  stands : (n : ℕ) → n < lastOfScan → after (idle l) (blocksBefore (suc n) tag) ≡ standing n
+  stands : (n : ℕ) → n < 10 → after (idle l) (blocksBefore (suc n) tag) ≡ standing n
   unfolding blocksBefore after
   stands zero h =
-      ap (λ (r : Stepped). r .next)
-      (accepted-offer .opens (idle l) 0 (tag 0) (record { idle = refl; accepted = taken-number l [] (offerOf tag 0) k (omega arith) (tagged 0 (omega arith)) }) refl)
+      accepted-offer .opens (idle l) 0 (tag 0) (record {
+        idle = refl;
+        sound = record { watch = record { limit = k; expected = λ o. never o; last = λ o. never o }; block = omega arith; tag = tagged 0 (omega arith) };
+      }) refl .1
   stands (suc n) h =
-      let e = stands n (omega arith) in
-      after-one (idle l) (blocksBefore (suc n) tag) (offerOf tag (suc n)) ∙ ap (λ (v : Watch). nextOf v (offerOf tag (suc n))) e
-      ∙ ap (λ (r : Stepped). r .next) (accepted-offer .kept (standing n) (suc n) (tag (suc n)) (timely n (omega arith) e) refl (λ q. omega arith))
+      after-one (idle l) (blocksBefore (suc n) tag) (offerOf tag (suc n)) ∙ ap (λ (v : Watch). nextOf v (offerOf tag (suc n))) (stands n (omega arith))
+      ∙ accepted-offer .kept (standing n) (suc n) (tag (suc n)) (timely n (omega arith)) refl (λ q. omega arith) .1
       ∙ ap (λ (m : ℕ). expecting m (tagOf (tag (suc n))) l) (add-one (suc n))
 
-  ended : verdictOf (after (idle l) (blocksBefore lastOfScan tag)) (offerOf tag lastOfScan) ≡ Closed Complete
+  ended : kindOf (verdictOf (after (idle l) (blocksBefore 10 tag)) (offerOf tag 10)) ≡ 7
   ended =
-      let e = stands 9 (omega arith) in
-      ap (λ (v : Watch). verdictOf v (offerOf tag lastOfScan)) e ∙ accepted-offer .complete (standing 9) 10 (tag 10) (timely 9 (omega arith) e) refl refl
+      ap (λ (v : Watch). kindOf (verdictOf v (offerOf tag 10))) (stands 9 (omega arith))
+      ∙ accepted-offer .complete (standing 9) 10 (tag 10) (timely 9 (omega arith)) refl refl
 
 pub any-offers : AnyOffers
 any-offers = record {
   completed = λ l os o h. scan l os o (always l os) (turn (after (idle l) os) (o .block) (o .tag)) h;
-  never-refused = λ l os o k b t. one-offer .number (after (idle l) os) (o .block) (o .tag) ∙ taken-number l os o k b (good (o .tag) t);
-  whole = λ l tag k t w.
-      let g : (n : ℕ) → n ≤ lastOfScan → goodTag (tag n) ≡ true = λ n h. good (tag n) (t n h) in
-      ended l tag k g (λ n h.
-      let e = counted (tag n) (tag (suc n)) (g n (omega arith)) (g (suc n) (omega arith)) in
+  never-refused = λ l os o k b t. by-refusal (after (idle l) os) (o .block) (o .tag) ∙ taken-number l os o k b (good (o .tag) t);
+  whole = λ l tag k t w. ended l tag k t (λ n h.
+      let e = counted (tag n) (tag (suc n)) (good (tag n) (t n (omega arith))) (good (tag (suc n)) (t (suc n) (omega arith))) in
       subst (λ (a : Elapsed). (pos 0 ≤ℤ a .ms) × (a .ms ≤ℤ pos l)) e (w n h));
 }

@@ -1,19 +1,19 @@
 -- What no refusal says: every ground failed, so an open watch's expected block is in bounds and the offered tag is good.
 -- Assumes nothing.
 use mathlib.Core.Path.{_≡_, refl, sym, ap, _∙_}
-use Prim.Native.Nat.{ℕ, suc, _≤_}
-use native.Mathlib.Omega.{arith}
-use mathlib.Core.Bool.{Bool, true, false, not, _&&_, _||_}
+use Prim.Native.Nat.{ℕ, _≤_}
+use mathlib.Core.Bool.{Bool, true, false, _&&_, _||_}
 use mathlib.Core.List.{List}
 use lib.Dec.{eqb, ltb}
 use borrow.Author.Tests.{ltb-false, not-false}
-use Rattle.ground.specs.Choice.{pick}
 use Rattle.ground.specs.Grounds.{firstOf}
 use Rattle.tag.specs.Tags.{tagOf, goodTag, readTag}
 use Rattle.tag.specs.declared.TagRead.{TagRead}
 use Rattle.ground.proofs.LawsTests.{never}
 use Rattle.tag.proofs.LawsTags.{accepted, reads}
-use Rattle.watch.specs.Bounds.{lastOfScan, lastBlock, badLimit, badExpected, badLast, grounds, refusalOf}
+use Rattle.ground.proofs.LawsGrounds.{first-none}
+use Rattle.row.specs.Rows.{lastBlock}
+use Rattle.watch.specs.Bounds.{lastOfScan, badLimit, badExpected, badLast, grounds, refusalOf}
 use Rattle.watch.specs.declared.Watch.{Watch}
 use Rattle.watch.specs.declared.Verdict.{Verdict}
 use Rattle.watch.specs.declared.Stepped.{Stepped}
@@ -33,17 +33,11 @@ pub record Passed (w : Watch) (b : ℕ) (good : Bool) : Type 0 where
   pub block : ltb lastBlock b ≡ false
   pub tag : good ≡ true
 
-passes : (t : Bool) (n x : ℕ) → pick t (suc n) x ≡ 0 → (t ≡ false) × (x ≡ 0)
-passes true n x h = absurd (omega arith)
-passes false n x h = (refl, h)
-
 pub passed : (w : Watch) (b : ℕ) (good : Bool) → firstOf (grounds w b good) ≡ 0 → Passed w b good
 passed w b good h =
-    let l = passes (badLimit w) 15 _ h in
-    let e = passes (badExpected w) 12 _ (l .1) in
-    let t = passes (badLast w) 11 _ (e .1) in
-    let k = passes (ltb lastBlock b) 3 _ (t .1) in
-    record { limit = l .0; expected = e .0; last = t .0; block = k .0; tag = not-false good (passes (not good) 11 _ (k .1) .0) }
+    let n = first-none (grounds w b good) refl h in
+    let o = n .1 .1 .1 in
+    record { limit = n .0; expected = n .1 .0; last = n .1 .1 .0; block = o .0; tag = not-false good (o .1 .0) }
 
 neither : (o p q : Bool) → o && (p || q) ≡ false → o ≡ true → (p ≡ false) × (q ≡ false)
 neither true true q h e = never (sym h)

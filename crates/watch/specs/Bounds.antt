@@ -2,9 +2,10 @@
 -- Assumes nothing.
 use Prim.Native.Nat.{ℕ}
 use mathlib.Core.Bool.{Bool, not, _&&_, _||_}
-use mathlib.Core.List.{List, [], _∷_}
+use mathlib.Core.List.{List, [], _∷_, _++_}
 use lib.Dec.{ltb}
 use Rattle.ground.specs.Grounds.{Ground, _when_, firstOf}
+use Rattle.row.specs.Rows.{lastBlock}
 use Rattle.tag.specs.Tags.{inBounds, goodTag}
 use Rattle.watch.specs.declared.Watch.{Watch}
 
@@ -16,9 +17,6 @@ longestWait = 3600000
 abbrev pub lastOfScan : ℕ
 lastOfScan = 10
 
-abbrev pub lastBlock : ℕ
-lastBlock = 11
-
 -- A limit above the longest. The expected block and the last tag are read only when the watch is open.
 abbrev pub badLimit : Watch → Bool
 badLimit w = ltb longestWait (w .limit)
@@ -29,13 +27,16 @@ badExpected w = w .opened && (ltb (w .expected) 1 || ltb lastOfScan (w .expected
 abbrev pub badLast : Watch → Bool
 badLast w = w .opened && not (inBounds (w .last))
 
--- The offered block is tested (4), then its tag (12), which is good or not.
+-- A lent record outside its bounds is refused: 16 for a limit, 13 for an expected block, 12 for a last tag, in that order.
+abbrev pub lent : Watch → List Ground
+lent w = (16 when badLimit w) ∷ (13 when badExpected w) ∷ (12 when badLast w) ∷ []
+
+-- The offered block is then tested (4), then its tag (12), which is good or not.
 abbrev pub offered : ℕ → Bool → List Ground
 offered b good = (4 when ltb lastBlock b) ∷ (12 when not good) ∷ []
 
--- Before that a lent record outside its bounds is refused: 16 for a limit, 13 for an expected block, 12 for a last tag, in that order.
 abbrev pub grounds : Watch → ℕ → Bool → List Ground
-grounds w b good = (16 when badLimit w) ∷ (13 when badExpected w) ∷ (12 when badLast w) ∷ offered b good
+grounds w b good = lent w ++ offered b good
 
 -- The number of an offer of a block and its tag's bytes.
 unfoldable pub refusalOf : Watch → ℕ → List ℕ → ℕ

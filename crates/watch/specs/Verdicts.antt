@@ -1,7 +1,6 @@
--- What the cases of a verdict mean: the number given, whether the offer closed a scan, and whether it completed one.
+-- What the cases of a verdict mean: the number given, and what the offer did, as a number too.
 -- Assumes nothing.
 use Prim.Native.Nat.{ℕ}
-use mathlib.Core.Bool.{Bool, true, false}
 use Rattle.watch.specs.declared.Closing.{Closing}
 use Rattle.watch.specs.declared.Closing.the-variants.{ClockBack, Late, Broken, Complete}
 use Rattle.watch.specs.declared.Verdict.{Verdict}
@@ -15,24 +14,18 @@ numberOf Opened = 0
 numberOf Kept = 0
 numberOf (Closed why) = 0
 
--- The offer closed a scan: as clock back, late, broken or complete.
-abbrev pub closes : Verdict → Bool
-closes (Refused n) = false
-closes Stray = false
-closes Opened = false
-closes Kept = false
-closes (Closed why) = true
+-- How a scan was closed: 4 as clock back, 5 as late, 6 as broken, 7 as complete.
+abbrev pub closingKind : Closing → ℕ
+closingKind ClockBack = 4
+closingKind Late = 5
+closingKind Broken = 6
+closingKind Complete = 7
 
-abbrev pub isComplete : Closing → Bool
-isComplete ClockBack = false
-isComplete Late = false
-isComplete Broken = false
-isComplete Complete = true
-
--- The offer completed a scan.
-abbrev pub completes : Verdict → Bool
-completes (Refused n) = false
-completes Stray = false
-completes Opened = false
-completes Kept = false
-completes (Closed why) = isComplete why
+-- What the offer did: 0 nothing, for it was refused; 1 nothing, for it was a stray; 2 it opened a scan; 3 it was kept; from 4 on it closed a
+-- scan.
+abbrev pub kindOf : Verdict → ℕ
+kindOf (Refused n) = 0
+kindOf Stray = 1
+kindOf Opened = 2
+kindOf Kept = 3
+kindOf (Closed why) = closingKind why

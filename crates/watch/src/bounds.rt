@@ -2,15 +2,14 @@
 ghost use mathlib.Core.Path.{_≡_};
 ghost use lib.Dec.{eqb, ltb};
 ghost use Rattle.ground.specs.Grounds.{firstOf};
-ghost use Rattle.watch.specs.Bounds.{longestWait, lastBlock, badExpected, badLast, offered, grounds};
+ghost use Rattle.row.specs.Rows.{lastBlock};
+ghost use Rattle.watch.specs.Bounds.{longestWait, badExpected, badLast, offered, grounds};
 use crate::Watch;
 
 // The longest waiting limit, in ms.
 const LONGEST_WAIT: u32 = 3600000;
 
 pub(crate) const LAST_OF_SCAN: u8 = 10;
-
-const LAST_BLOCK: u8 = 11;
 
 pub(crate) fn is(a: u8, b: u8) -> bool
     ensures { λ r. ⌜ r ≡ eqb a b ⌝ }
@@ -41,7 +40,7 @@ fn bad_last(w: Watch) -> bool
 fn unknown_block(block: u8) -> bool
     ensures { λ r. ⌜ r ≡ ltb lastBlock block ⌝ }
 {
-    LAST_BLOCK < block
+    row::LAST_BLOCK < block
 }
 
 // The number of the first ground that holds, of the offered block and its tag, which is good or not.
