@@ -16,7 +16,8 @@ use Rattle.ground.specs.Choice.{pick}
 use Rattle.ground.proofs.LawsTests.{never, split}
 use Rattle.bits.specs.Bits.{Below}
 use Rattle.bits.proofs.LawsBelow.{below-at}
-use Rattle.tag.specs.Calendar.{leap, daysIn, daysBefore}
+use Rattle.tag.specs.Calendar.{leap, daysIn}
+use Rattle.time.specs.Years.{daysBefore}
 use Rattle.tag.specs.Digits.{digitsOf}
 use Rattle.tag.specs.Tags.{tagDigits, tagOf, bytesOf, inBounds, goodTag, readTag, writeTag}
 use Rattle.time.specs.Times.{timeOf, between, elapsedOf}
@@ -24,7 +25,7 @@ use Rattle.tag.specs.Promises.{IsTag, Bounded}
 use Rattle.tag.specs.declared.Tag.{Tag}
 use Rattle.tag.specs.declared.TagRead.{TagRead}
 use Rattle.tag.specs.declared.TagBytes.{TagBytes}
-use Rattle.tag.specs.declared.time.Elapsed.{Elapsed}
+use Rattle.time.specs.declared.count.Elapsed.{Elapsed}
 use Rattle.tag.proofs.LawsTags.{tag, says, spells-out, good-bounds, reads, refuses}
 use Rattle.tag.proofs.LawsBounds.{facts, tests, day-below}
 use Rattle.time.proofs.LawsTimes.{minus, answer, counted, not-counted}
@@ -182,7 +183,7 @@ is-tag s t y b =
 abbrev number-read : TagRead → ℕ
 number-read r = r .number
 
-good-is-tag : (s : List ℕ) → goodTag s ≡ true → IsTag s
+pub good-is-tag : (s : List ℕ) → goodTag s ≡ true → IsTag s
 good-is-tag s g = Kept.reading .only s (ap number-read (reads s g))
 
 pub tells-bad : (s : List ℕ) → Tells (not (goodTag s)) (Bad s)

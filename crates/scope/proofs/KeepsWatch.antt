@@ -1,43 +1,36 @@
 -- The scope's statements on the watch are kept: the grounds of refusal are told by their tests, each rule by the promise on an accepted offer,
 -- and the watch after an offer goes by its code.
 -- Assumes nothing.
-use Prim.Native.Nat.{ℕ, zero, suc, _+_, _≤_}
+use Prim.Native.Nat.{ℕ, _+_}
 use mathlib.Core.Path.{_≡_, refl, sym, ap, _∙_, subst}
 use mathlib.Core.Logic.{inl}
-use mathlib.Core.Bool.{Bool, true, false, not}
+use mathlib.Core.Bool.{Bool, true, false, not, _&&_}
 use mathlib.Core.List.{List}
 use native.Mathlib.Omega.{arith}
 use lib.Dec.{T, eqb}
 use lib.IntN.{ℤ, pos}
 use lib.Signed.{ltZ, _<ℤ_, _≤ℤ_, ltZ-yes, ltZ-no}
-use borrow.Author.Tests.{eqb-true, ne-eqb, not-true, not-false}
-use Rattle.ground.specs.Choice.{pick}
+use borrow.Author.Tests.{eqb-true, ltb-false, not-true, not-false}
 use Rattle.ground.proofs.LawsTests.{never}
-use Rattle.tag.specs.Tags.{tagOf, goodTag}
+use Rattle.tag.specs.Tags.{inBounds, tagOf, goodTag}
+use Rattle.tag.proofs.LawsBounds.{facts}
 use Rattle.time.specs.Times.{between}
 use Rattle.tag.specs.declared.Tag.{Tag}
-use Rattle.watch.specs.Verdicts.{numberOf, completes}
+use Rattle.watch.specs.Verdicts.{kindOf}
 use Rattle.watch.specs.Bounds.{grounds, refusalOf}
-use Rattle.watch.specs.Rules.{stepOf}
-use Rattle.watch.specs.Offers.{verdictOf, after}
-use Rattle.watch.specs.Promises.{Open, InTime}
+use Rattle.watch.specs.Offers.{after}
+use Rattle.watch.specs.Promises.{Sound, given, kind, Open, InTime}
 use Rattle.watch.specs.declared.Watch.{Watch}
-use Rattle.watch.specs.declared.Closing.the-variants.{ClockBack, Late, Broken, Complete}
-use Rattle.watch.specs.declared.Verdict.{Verdict}
-use Rattle.watch.specs.declared.Verdict.the-variants.{Refused, Stray, Opened, Kept, Closed}
 use Rattle.watch.specs.declared.Stepped.{Stepped}
 use Rattle.watch.proofs.LawsTurn.{Turn, refuses, strays, opens, closes, keeps, back, late, broken, complete, turn}
-use Rattle.watch.proofs.KeepsRules as Rules
+use Rattle.watch.proofs.LawsRules.{accepted-for, from-one, to-ten}
+use Rattle.watch.proofs.KeepsRules.{by-refusal, beginning, one-offer, accepted-offer}
 use Rattle.watch.proofs.KeepsScans.{any-offers}
-use Rattle.c_watch.specs.Watches.{codeOf}
 use Rattle.scope.specs.Notions.{FirstOf}
 use Rattle.scope.specs.Tags.{Says}
-use Rattle.scope.specs.Watch.{atRest, awaiting, refusals, rules, Beginning, Offering, Scanning}
+use Rattle.scope.specs.Watch.{refusals, rules, Watching}
 use Rattle.scope.proofs.LawsReasons.{Tells, tells-true, tells-eq, tells-less, tells-not, tells-both, tells-either, decided, first-reason}
-use Rattle.scope.proofs.KeepsTags.{says-only, tells-bounds, tells-bad, is-tag-unless-bad}
-
-pub beginning : Beginning
-beginning = record { taken = Rules.beginning .taken; refused = Rules.beginning .refused }
+use Rattle.scope.proofs.KeepsTags.{says-only, tells-bounds, tells-bad, good-is-tag}
 
 -- ---- what an offer is refused for
 
@@ -74,105 +67,67 @@ tells-before x y = record { yes = λ e. ltZ-yes (subst T (sym e) tt); no = λ e 
 not-before : {x y : ℤ} → ltZ x y ≡ false → y ≤ℤ x
 not-before e = ltZ-no (subst (λ (t : Bool). T (not t)) (sym e) tt)
 
+-- an accepted offer is sound
+sound-for : (w : Watch) (b : ℕ) (s : List ℕ) → refusalOf w b s ≡ 0 → Sound w b s
+sound-for w b s z =
+    let p = accepted-for w b s z in
+    record {
+      watch =
+          record {
+            limit = ltb-false 3600000 (w .limit) (p .limit);
+            expected = λ o. (from-one w (p .expected) o, to-ten w (p .expected) o);
+            last = λ o. facts (w .last) (not-false (inBounds (w .last)) (sym (ap (λ (t : Bool). t && not (inBounds (w .last))) o) ∙ p .last));
+          };
+      block = ltb-false 11 b (p .block);
+      tag = good-is-tag s (p .tag);
+    }
+
 module _ (w : Watch) (b : ℕ) (s : List ℕ) where
-  abbrev code : ℕ
-  code = codeOf (stepOf w b s .verdict)
-
-  coded : {r : Stepped} → stepOf w b s ≡ r → code ≡ codeOf (r .verdict)
-  coded e = ap (λ (r : Stepped). codeOf (r .verdict)) e
-
-  by-rules : refusalOf w b s ≡ 0 → FirstOf (rules w b (tagOf s)) code
+  by-rules : refusalOf w b s ≡ 0 → FirstOf (rules w b (tagOf s)) (kind w b s)
   by-rules accepted =
+      let sound = sound-for w b s accepted in
       decided (tells-both (tells-false (w .opened)) (tells-eq b 0))
-      (λ _ p. coded (Rules.accepted-offer .opens w b s (record { idle = p .0; accepted = accepted }) (p .1))) (λ _ n.
+      (λ _ p. accepted-offer .opens w b s (record { idle = p .0; sound = sound }) (p .1) .0) (λ _ n.
       decided (tells-false (w .opened))
-      (λ _ o. coded (Rules.accepted-offer .strays w b s (record { idle = o; accepted = accepted }) (λ z. n (o, z)))) (λ o _.
-      let opened : Open w b s = record { opened = not-false (w .opened) o; accepted = accepted } in
+      (λ _ o. accepted-offer .strays w b s (record { idle = o; sound = sound }) (λ z. n (o, z)) .0) (λ o _.
+      let opened : Open w b s = record { opened = not-false (w .opened) o; sound = sound } in
       decided (tells-before (between (w .last) (tagOf s)) (pos 0))
-      (λ _ h. ap codeOf (Rules.accepted-offer .back w b s opened h)) (λ forward _.
+      (λ _ h. accepted-offer .back w b s opened h) (λ forward _.
       decided (tells-before (pos (w .limit)) (between (w .last) (tagOf s)))
-      (λ _ h. ap codeOf (Rules.accepted-offer .late w b s opened h)) (λ soon _.
+      (λ _ h. accepted-offer .late w b s opened h) (λ soon _.
       let timely : InTime w b s = record { taken = opened; forward = not-before forward; soon = not-before soon } in
       decided (tells-not (tells-eq b (w .expected)))
-      (λ _ n. ap codeOf (Rules.accepted-offer .broken w b s timely n)) (λ e _.
+      (λ _ n. accepted-offer .broken w b s timely n) (λ e _.
       let same : b ≡ w .expected = eqb-true b (w .expected) (not-false (eqb b (w .expected)) e) in
       decided (tells-eq b 10)
-      (λ _ n. ap codeOf (Rules.accepted-offer .complete w b s timely same n)) (λ _ n.
-      inl (tt, coded (Rules.accepted-offer .kept w b s timely same n))))))))
+      (λ _ n. accepted-offer .complete w b s timely same n) (λ _ n.
+      inl (tt, accepted-offer .kept w b s timely same n .0)))))))
 
-  rule : (t : Tag) → Says s t → numberOf (stepOf w b s .verdict) ≡ 0 → FirstOf (rules w b t) code
-  rule t y h = subst (λ (u : Tag). FirstOf (rules w b u) code) (sym (says-only s t y)) (by-rules (sym (Rules.one-offer .number w b s) ∙ h))
+  rule : (t : Tag) → Says s t → given w b s ≡ 0 → FirstOf (rules w b t) (kind w b s)
+  rule t y h = subst (λ (u : Tag). FirstOf (rules w b u) (kind w b s)) (sym (says-only s t y)) (by-rules (sym (by-refusal w b s) ∙ h))
 
-  -- ---- the watch afterwards, by the code
+  -- a kept offer, by its turn
+  IsKept : Stepped → Type 0
+  IsKept r = kindOf (r .verdict) ≡ 3 → r .next ≡ record { opened = true; expected = w .expected + 1; last = tagOf s; limit = w .limit }
 
-  abbrev nextBy : Tag → ℕ → Watch
-  nextBy t zero = w
-  nextBy t (suc zero) = w
-  nextBy t (suc (suc zero)) = awaiting 1 t (w .limit)
-  nextBy t (suc (suc (suc zero))) = awaiting (w .expected + 1) t (w .limit)
-  nextBy t (suc (suc (suc (suc n)))) = pick (eqb b 0) (awaiting 1 t (w .limit)) (atRest (w .limit))
+  kept : {r : Stepped} → Turn w b s r → IsKept r
+  unfolding IsKept
+  kept (refuses h) e = absurd (omega arith)
+  kept (strays e o z) f = absurd (omega arith)
+  kept (opens e z) f = absurd (omega arith)
+  kept (closes e o (back h)) f = absurd (omega arith)
+  kept (closes e o (late h)) f = absurd (omega arith)
+  kept (closes e o broken) f = absurd (omega arith)
+  kept (closes e o (complete m q n)) f = absurd (omega arith)
+  kept (keeps e o m q n) f = refl
 
-  turned : {r : Stepped} → Turn w b s r → r .next ≡ nextBy (tagOf s) (codeOf (r .verdict))
-  turned (refuses h) = refl
-  turned (strays e o z) = refl
-  turned (opens e z) = refl
-  turned (closes e o (back h)) = refl
-  turned (closes e o (late h)) = refl
-  turned (closes e o broken) = refl
-  turned (closes e o (complete m q n)) = refl
-  turned (keeps e o m q n) = refl
-
-  next-is : (n : ℕ) → code ≡ n → stepOf w b s .next ≡ nextBy (tagOf s) n
-  next-is n e = turned (turn w b s) ∙ ap (nextBy (tagOf s)) e
-
-  -- where the tag says t
-  next-of : (t : Tag) → Says s t → (n : ℕ) → code ≡ n → stepOf w b s .next ≡ nextBy t n
-  next-of t y n e = next-is n e ∙ ap (λ (u : Tag). nextBy u n) (sym (says-only s t y))
-
-  closed : (t : Tag) (n : ℕ) → 4 ≤ n → nextBy t n ≡ pick (eqb b 0) (awaiting 1 t (w .limit)) (atRest (w .limit))
-  closed t zero h = absurd (omega arith)
-  closed t (suc zero) h = absurd (omega arith)
-  closed t (suc (suc zero)) h = absurd (omega arith)
-  closed t (suc (suc (suc zero))) h = absurd (omega arith)
-  closed t (suc (suc (suc (suc n)))) h = refl
-
--- a refusal has no code
-no-code : (v : Verdict) → (numberOf v ≡ 0 → ⊥) → codeOf v ≡ 0
-no-code (Refused n) h = refl
-no-code Stray h = absurd (h refl)
-no-code Opened h = absurd (h refl)
-no-code Kept h = absurd (h refl)
-no-code (Closed why) h = absurd (h refl)
-
-pub offering : Offering
-offering = record {
-  number = λ w b s. subst (FirstOf (refusals w b s)) (sym (Rules.one-offer .number w b s)) (tells-refusals w b s);
+pub watching : Watching
+unfolding IsKept
+watching = record {
+  begun = beginning;
+  number = λ w b s. subst (FirstOf (refusals w b s)) (sym (by-refusal w b s)) (tells-refusals w b s);
   rule = rule;
-  refused = λ w b s n. let e = no-code (stepOf w b s .verdict) n in (next-is w b s 0 e, e);
-  stray = λ w b s e. next-is w b s 1 e;
-  opened = λ w b s t y e. next-of w b s t y 2 e;
-  kept = λ w b s t y e. next-of w b s t y 3 e;
-  anew = λ w s t y h. next-of w 0 s t y (code w 0 s) refl ∙ closed w 0 s t (code w 0 s) h;
-  at-rest = λ w b s n h.
-      next-is w b s (code w b s) refl ∙ closed w b s (tagOf s) (code w b s) h
-      ∙ ap (λ (z : Bool). pick z (awaiting 1 (tagOf s) (w .limit)) (atRest (w .limit))) (ne-eqb b 0 n);
-  unread = Rules.one-offer .unread;
-}
-
--- ---- any offers
-
-is-complete : (v : Verdict) → codeOf v ≡ 7 → completes v ≡ true
-is-complete (Refused n) e = absurd (omega arith)
-is-complete Stray e = absurd (omega arith)
-is-complete Opened e = absurd (omega arith)
-is-complete Kept e = absurd (omega arith)
-is-complete (Closed ClockBack) e = absurd (omega arith)
-is-complete (Closed Late) e = absurd (omega arith)
-is-complete (Closed Broken) e = absurd (omega arith)
-is-complete (Closed Complete) e = refl
-
-pub scanning : Scanning
-scanning = record {
-  completed = λ limit os o e. any-offers .completed limit os o (is-complete (verdictOf (after (atRest limit) os) o) e);
-  whole = λ limit tag l good wait. ap codeOf (any-offers .whole limit tag l (λ k h. is-tag-unless-bad (tag k) (good k h)) wait);
+  left = one-offer;
+  kept = λ w b s. kept w b s (turn w b s);
+  scans = any-offers;
 }
