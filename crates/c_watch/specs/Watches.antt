@@ -7,8 +7,6 @@ use lib.Dec.{eqb}
 use lib.ListN.{getD}
 use Rattle.ground.specs.Choice.{pick}
 use Rattle.watch.specs.declared.Watch.{Watch}
-use Rattle.watch.specs.declared.Closing.{Closing}
-use Rattle.watch.specs.declared.Closing.the-variants.{ClockBack, Late, Broken, Complete}
 use Rattle.watch.specs.declared.Verdict.{Verdict}
 use Rattle.watch.specs.declared.Verdict.the-variants.{Refused, Stray, Opened, Kept, Closed}
 use Rattle.watch.specs.declared.Stepped.{Stepped}
@@ -24,21 +22,6 @@ watchIn row = record { opened = not (eqb (getD row 0 0) 0); expected = upTo 255 
 -- The numbers of a watch.
 abbrev pub numbersOfWatch : Watch → List ℕ
 numbersOfWatch w = mark (w .opened) ∷ w .expected ∷ (numbersOf (w .last) ++ (w .limit ∷ []))
-
--- The number of how a scan closed.
-abbrev pub closingCode : Closing → ℕ
-closingCode ClockBack = 4
-closingCode Late = 5
-closingCode Broken = 6
-closingCode Complete = 7
-
--- The number of what an offer did; 0 where it was refused.
-abbrev pub codeOf : Verdict → ℕ
-codeOf (Refused n) = 0
-codeOf Stray = 1
-codeOf Opened = 2
-codeOf Kept = 3
-codeOf (Closed why) = closingCode why
 
 -- A refused offer and a stray leave the record as it was, to the bit.
 abbrev pub leaves : Verdict → Bool

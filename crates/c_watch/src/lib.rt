@@ -1,9 +1,9 @@
 // The scan watch, from C. The host keeps it as ten numbers: open, expected block, the seven numbers of the last tag, limit.
 ghost use mathlib.Core.Path.{_≡_};
-ghost use Rattle.watch.specs.Verdicts.{numberOf};
+ghost use Rattle.watch.specs.Verdicts.{numberOf, closingKind, kindOf};
 ghost use Rattle.watch.specs.Rules.{beginOf, stepOf};
 ghost use Rattle.c_numbers.specs.Numbers.{upTo};
-ghost use Rattle.c_watch.specs.Watches.{watchIn, numbersOfWatch, codeOf, closingCode, leaves, rowAfter, rowBegun};
+ghost use Rattle.c_watch.specs.Watches.{watchIn, numbersOfWatch, leaves, rowAfter, rowBegun};
 use c_numbers::in_byte;
 use c_numbers::is_on;
 use c_numbers::marked;
@@ -64,7 +64,7 @@ fn row_of(watch: Watch) -> [u32; 10]
 }
 
 fn closing_code(why: Closing) -> u8
-    ensures { λ r. ⌜ r ≡ closingCode why ⌝ }
+    ensures { λ r. ⌜ r ≡ closingKind why ⌝ }
 {
     match why {
         Closing::ClockBack => CLOCK_BACK,
@@ -75,7 +75,7 @@ fn closing_code(why: Closing) -> u8
 }
 
 fn code_of(verdict: Verdict) -> u8
-    ensures { λ r. ⌜ r ≡ codeOf verdict ⌝ }
+    ensures { λ r. ⌜ r ≡ kindOf verdict ⌝ }
 {
     match verdict {
         Verdict::Refused(_) => REFUSED,
@@ -153,7 +153,7 @@ pub extern "C" fn rahmisve_watch_offer(
     verdict: &mut u8,
 ) -> u8
     ensures { λ r. ⌜ r ≡ numberOf (stepOf (watchIn (now (watch .entry))) (upTo 255 block) (now (tag .entry)) .verdict) ⌝ }
-    ensures { λ r. ⌜ now (verdict .exit) ≡ codeOf (stepOf (watchIn (now (watch .entry))) (upTo 255 block) (now (tag .entry)) .verdict) ⌝ }
+    ensures { λ r. ⌜ now (verdict .exit) ≡ kindOf (stepOf (watchIn (now (watch .entry))) (upTo 255 block) (now (tag .entry)) .verdict) ⌝ }
     ensures { λ r. ⌜ now (watch .exit) ≡ rowAfter (stepOf (watchIn (now (watch .entry))) (upTo 255 block) (now (tag .entry))) (now (watch .entry)) ⌝ }
 {
     let row = *watch;

@@ -33,7 +33,7 @@ use Rattle.tag.specs.declared.Tag.{Tag}
 use Rattle.tag.proofs.KeepsTable.{all-differ}
 use Rattle.time.proofs.KeepsTable.{row9}
 use Rattle.time.proofs.LawsYears.{quick}
-use Rattle.watch.specs.Verdicts.{numberOf}
+use Rattle.watch.specs.Verdicts.{numberOf, kindOf}
 use Rattle.watch.specs.Bounds.{refusalOf}
 use Rattle.watch.specs.Rules.{expecting, inTime, onOpen, onGood, stepOf}
 use Rattle.watch.specs.declared.Watch.{Watch}
@@ -48,7 +48,7 @@ use Rattle.c_numbers.specs.Marks as marks
 use Rattle.c_blocks.specs.Copies.{copiesIn}
 use Rattle.c_parity.specs.Verdicts.{marksAt}
 use Rattle.c_tags.specs.Times.{numbersOf}
-use Rattle.c_watch.specs.Watches.{watchIn, numbersOfWatch, codeOf, leaves, rowAfter, rowBegun}
+use Rattle.c_watch.specs.Watches.{watchIn, numbersOfWatch, leaves, rowAfter, rowBegun}
 use Rattle.scope.specs.Notions.{Reason, _if_, FirstOf}
 use Rattle.from_c.specs.FromC.{mark, time, watch, watchAt, code, FromC, RowsFromC}
 use Rattle.from_c.proofs.LawsFromC.{take-cut, room-cut, put-cut, field-cut, place-cut, part-cut, write-cut, follows}
@@ -78,7 +78,7 @@ time-same t = ap (λ (n : ℕ). t .year ∷ t .day ∷ t .hour ∷ t .minute ∷
 watch-same : (w : Watch) → numbersOfWatch w ≡ watch w
 watch-same w = λ i. mark-same (w .opened) i ∷ w .expected ∷ (time-same (w .last) i ++ (w .limit ∷ []))
 
-code-same : (v : Verdict) → codeOf v ≡ code v
+code-same : (v : Verdict) → kindOf v ≡ code v
 code-same (Refused n) = refl
 code-same Stray = refl
 code-same Opened = refl
@@ -113,10 +113,10 @@ module _ (row : List ℕ) (block : ℕ) (tag : List ℕ) where
   abbrev q : Stepped
   q = stepOf (watchAt row) block tag
 
-  did : {verdict : ℕ} → verdict ≡ codeOf (r .verdict) → verdict ≡ code (q .verdict)
-  did e = e ∙ ap codeOf (follows row block tag .did) ∙ code-same (q .verdict)
+  did : {verdict : ℕ} → verdict ≡ kindOf (r .verdict) → verdict ≡ code (q .verdict)
+  did e = e ∙ ap kindOf (follows row block tag .did) ∙ code-same (q .verdict)
 
-  module _ {verdict : ℕ} {after : List ℕ} (e : verdict ≡ codeOf (r .verdict)) (f : after ≡ rowAfter r row) where
+  module _ {verdict : ℕ} {after : List ℕ} (e : verdict ≡ kindOf (r .verdict)) (f : after ≡ rowAfter r row) where
     row-by : (t : Bool) → leaves (q .verdict) ≡ t → after ≡ pick t row (numbersOfWatch (r .next))
     row-by t h = f ∙ ap (λ (x : Bool). pick x row (numbersOfWatch (r .next))) (ap leaves (follows row block tag .did) ∙ h)
 
@@ -247,7 +247,7 @@ rows-from-c = record {
   kept = λ _ g x h b t.
       let p = x .allowed in
       let e = (λ i. stepOf (watchIn (h i)) (upTo 255 (b i)) (t i)) ∙ keeps in
-      (p .0 ∙ (λ i. numberOf (e i .verdict)), λ i. ((p .1 .1 ∙ (λ j. rowAfter (e j) (h j))) i, (tt, (tt, ((p .1 .0 ∙ (λ j. codeOf (e j .verdict))) i, tt)))));
+      (p .0 ∙ (λ i. numberOf (e i .verdict)), λ i. ((p .1 .1 ∙ (λ j. rowAfter (e j) (h j))) i, (tt, (tt, ((p .1 .0 ∙ (λ j. kindOf (e j .verdict))) i, tt)))));
   row7 = λ _ g x f s c r.
       let field = g .0 .now in let size = g .1 .0 in let count = g .1 .1 .0 in let room = g .1 .1 .1 .0 .now in (
         x .allowed .0 ∙ take-cut count field room size ∙ (λ i. takeAnswer (s i) (c i) (f i) (length (r i))),

@@ -9,11 +9,11 @@ use mathlib.Core.Bool.{Bool, true, false, not, _&&_, _||_, or-true}
 use mathlib.Core.List.{List}
 use lib.Dec.{eqb, ltb, leb, eqb·suc-zero}
 use lib.ListN.{length, getD}
-use borrow.Author.Tests.{ltb-true, ltb-false, lt-ltb, eqb-true, eqb-false, ne-eqb, not-false}
+use borrow.Author.Tests.{eq-eqb, ltb-true, ltb-false, lt-ltb, eqb-true, eqb-false, ne-eqb, not-false}
 use Rattle.ground.specs.Choice.{pick}
-use Rattle.ground.proofs.LawsChoice.{no}
+use Rattle.ground.proofs.LawsChoice.{yes, no}
 use Rattle.ground.proofs.LawsTests.{never}
-use Rattle.row.specs.Rows.{recordsIn}
+use Rattle.row.specs.Rows.{recordsIn, lastBlock}
 use Rattle.row.proofs.LawsRow.{row-records}
 use Rattle.header.specs.Says.{blockIn, versionIn, sizeIn}
 use Rattle.bits.specs.Fields.{badSize, takeAnswer, roomTaken, putAnswer, fieldPut}
@@ -22,20 +22,18 @@ use Rattle.records.proofs.KeepsRecords.{refuses-in-order, finds}
 use Rattle.placement.specs.Placement.{placeOf}
 use Rattle.placement.proofs.LawsPlacement.{unknown-block, unknown-version, absent}
 use Rattle.placement.proofs.LawsRecords.{at-most-four}
-use Rattle.tag.specs.Tags.{inBounds, goodTag, writeTag}
+use Rattle.tag.specs.Tags.{inBounds, tagOf, goodTag, writeTag}
 use Rattle.tag.specs.Promises.{Bounded}
 use Rattle.tag.specs.declared.Tag.{Tag}
 use Rattle.tag.proofs.LawsBounds.{facts, tests, day-below}
 use Rattle.tag.proofs.KeepsTags.{writing}
-use Rattle.watch.specs.Bounds.{longestWait, lastOfScan, lastBlock, refusalOf}
-use Rattle.watch.specs.Rules.{stepOf}
+use Rattle.watch.specs.Bounds.{longestWait, lastOfScan, refusalOf}
+use Rattle.watch.specs.Rules.{expecting, onIdle, onGood, stepOf}
 use Rattle.watch.specs.declared.Watch.{Watch}
 use Rattle.watch.specs.declared.Stepped.{Stepped}
 use Rattle.watch.specs.declared.Verdict.{Verdict}
-use Rattle.watch.specs.declared.Verdict.the-variants.{Refused}
-use Rattle.watch.specs.Promises.{Idle}
+use Rattle.watch.specs.declared.Verdict.the-variants.{Refused, Stray, Opened}
 use Rattle.watch.proofs.LawsRules.{stepped, accepted-for, to-ten}
-use Rattle.watch.proofs.KeepsRules.{accepted-offer}
 use Rattle.c_numbers.specs.Numbers.{upTo}
 use Rattle.c_tags.specs.Times.{tagFrom}
 use Rattle.c_watch.specs.Watches.{watchIn, leaves}
@@ -193,6 +191,16 @@ refusing : (w : Watch) (b : ℕ) (s : List ℕ) → (refusalOf w b s ≡ 0 → �
 unfolding stepOf
 refusing w b s h = sym (no _ refl (ne-eqb (refusalOf w b s) 0 h) refl)
 
+-- an accepted offer to an idle watch
+module _ (w : Watch) (b : ℕ) (s : List ℕ) (e : refusalOf w b s ≡ 0) (o : w .opened ≡ false) where
+  opened-at : b ≡ 0 → stepOf w b s ≡ stepped (expecting 1 (tagOf s) (w .limit)) Opened
+  unfolding stepOf onGood onIdle
+  opened-at z = sym (yes _ refl (eq-eqb (refusalOf w b s) 0 e) (no _ refl o (yes _ refl (eq-eqb b 0 z) refl)))
+
+  strayed-at : (b ≡ 0 → ⊥) → stepOf w b s ≡ stepped w Stray
+  unfolding stepOf onGood onIdle
+  strayed-at n = sym (yes _ refl (eq-eqb (refusalOf w b s) 0 e) (no _ refl o (no _ refl (ne-eqb b 0 n) refl)))
+
 -- what an offer did, and the watch that it leaves
 pub record Follows (r q : Stepped) : Type 0 where
   pub did : r .verdict ≡ q .verdict
@@ -245,15 +253,9 @@ module _ (row : List ℕ) (block : ℕ) (s : List ℕ) where
     when-idle : w .opened ≡ false → Follows (stepOf w′ b′ s) (stepOf w block s)
     when-idle o = go (eqb block 0) refl
       where
-        cut-idle : Idle w′ b′ s
-        cut-idle = record { idle = on-same (getD row 0 0) ∙ o; accepted = number-cut ∙ e }
-
-        is-idle : Idle w block s
-        is-idle = record { idle = o; accepted = e }
-
         go : (x : Bool) → eqb block 0 ≡ x → Follows (stepOf w′ b′ s) (stepOf w block s)
-        go true z = let b = eqb-true block 0 z in equal (accepted-offer .opens w′ b′ s cut-idle (same-block ∙ b) ∙ sym (accepted-offer .opens w block s is-idle b))
-        go false z = let b = eqb-false block 0 z in left refl (accepted-offer .strays w′ b′ s cut-idle (λ n. b (sym same-block ∙ n))) (accepted-offer .strays w block s is-idle b)
+        go true z = let b = eqb-true block 0 z in equal (opened-at w′ b′ s (number-cut ∙ e) (on-same (getD row 0 0) ∙ o) (same-block ∙ b) ∙ sym (opened-at w block s e o b))
+        go false z = let b = eqb-false block 0 z in left refl (strayed-at w′ b′ s (number-cut ∙ e) (on-same (getD row 0 0) ∙ o) (λ n. b (sym same-block ∙ n))) (strayed-at w block s e o b)
 
     when-taken : (x : Bool) → w .opened ≡ x → Follows (stepOf w′ b′ s) (stepOf w block s)
     when-taken true o = equal (ap₂ (λ (v : Watch) (n : ℕ). stepOf v n s) (same-watch o) same-block)
