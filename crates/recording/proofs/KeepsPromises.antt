@@ -16,7 +16,7 @@ use Rattle.ground.proofs.LawsChoice.{yes, no, either}
 use Rattle.block.specs.Answers.{answerOf}
 use Rattle.block.proofs.KeepsReader.{nine-never as small}
 use Rattle.recording.specs.Fields.{Field, written, joined}
-use Rattle.recording.specs.Found.{frontLength, lengthAt, foundAt}
+use Rattle.recording.specs.Found.{frontLength, lengthAt, foundAt, answered}
 use Rattle.recording.specs.Lines.{mostFields, holdsBlock, lineOf, countAfter}
 use Rattle.recording.specs.Promises.{Reads, HighFirst, NineNever, Counts}
 use Rattle.recording.proofs.LawsLines.{line-seq, seq-next}
@@ -42,7 +42,7 @@ module _ (pre : List ℕ) where
   length-behind : (s : List ℕ) → lengthAt (pre ++ s) (length pre) ≡ lengthAt s 0
   length-behind s = ap₂ (λ (x y : ℕ). x * 256 + y) (getD-append-add pre s 1 0) (getD-append-add pre s 2 0)
 
-  whole : (f : Field) (rest : List ℕ) → foundAt (pre ++ (written f ++ rest)) (length pre) ≡ Whole (f .tag) (length pre + frontLength) (length (f .body))
+  pub whole : (f : Field) (rest : List ℕ) → foundAt (pre ++ (written f ++ rest)) (length pre) ≡ Whole (f .tag) (length pre + frontLength) (length (f .body))
   unfolding foundAt
   whole f rest =
       let s = pre ++ (written f ++ rest) in
@@ -84,17 +84,17 @@ module _ (pre : List ℕ) where
         no _ refl e
         (yes _ refl (lt-ltb (length stopped) (length pre + frontLength + lengthAt stopped (length pre)) (omega (arith, length-stopped, said h, length-written f))) refl)
 
-    cut : foundAt (pre ++ take k (written f)) (length pre) ≡ Cut
+    pub cut : foundAt (pre ++ take k (written f)) (length pre) ≡ Cut
     unfolding foundAt stopped
     cut = sym (no _ refl (lt-leb (length stopped) (length pre) (omega (arith, length-stopped))) (cut-by _ refl))
 
 pub reads : (before : List Field) → Reads before
 unfolding foundAt
 reads before = record {
-  whole = λ f rest. whole (joined before) f rest;
+  whole = λ f rest. ap answered (whole (joined before) f rest);
   body = λ f rest. body (joined before) f rest;
-  cut = λ f k some short. cut (joined before) f k some short;
-  end = sym (yes _ refl (le-leb (length (joined before)) (length (joined before)) (omega arith)) refl);
+  cut = λ f k some short. ap answered (cut (joined before) f k some short);
+  end = ap answered (sym (yes _ refl (le-leb (length (joined before)) (length (joined before)) (omega arith)) refl));
 }
 
 pub nine-never : NineNever

@@ -1,6 +1,6 @@
--- A whole field lies inside the recording.
+-- A whole field lies inside the recording, its body behind its front.
 -- Assumes nothing.
-use mathlib.Core.Path.{_≡_, refl, ap}
+use mathlib.Core.Path.{_≡_, refl, ap, subst}
 use mathlib.Core.Bool.{Bool, true, false}
 use mathlib.Core.List.{List}
 use Prim.Native.Nat.{ℕ, _+_, _≤_}
@@ -11,20 +11,17 @@ use lib.ListN.{length, getD}
 use Rattle.ground.specs.Choice.{pick}
 use Rattle.recording.specs.declared.Found.{Found}
 use Rattle.recording.specs.declared.Found.the-variants.{Whole, Cut, End}
-use Rattle.recording.specs.Found.{frontLength, lengthAt, foundAt}
+use Rattle.recording.specs.Found.{frontLength, lengthAt, foundAt, answered, endOf}
 
--- where a field that is found ends; 0 where none is
-abbrev endOf : Found → ℕ
-endOf (Whole tag start n) = start + n
-endOf Cut = 0
-endOf End = 0
+-- what is found, by its three tests
+abbrev foundBy : List ℕ → ℕ → (none few short : Bool) → Found
+foundBy bytes at none few short = pick none End (pick few Cut (pick short Cut (Whole (getD bytes at 0) (at + frontLength) (lengthAt bytes at))))
 
 ends-inside : (bytes : List ℕ) (at : ℕ) → endOf (foundAt bytes at) ≤ length bytes
 unfolding foundAt
 ends-inside bytes at = by (leb (length bytes) at) (ltb (length bytes) (at + frontLength)) (ltb (length bytes) (at + frontLength + lengthAt bytes at)) refl
   where
-    by : (a b d : Bool) → ltb (length bytes) (at + frontLength + lengthAt bytes at) ≡ d
-        → endOf (pick a End (pick b Cut (pick d Cut (Whole (getD bytes at 0) (at + frontLength) (lengthAt bytes at))))) ≤ length bytes
+    by : (a b d : Bool) → ltb (length bytes) (at + frontLength + lengthAt bytes at) ≡ d → endOf (foundBy bytes at a b d) ≤ length bytes
     by true b d e = omega arith
     by false true d e = omega arith
     by false false true e = omega arith
@@ -32,3 +29,20 @@ ends-inside bytes at = by (leb (length bytes) at) (ltb (length bytes) (at + fron
 
 pub whole-inside : (bytes : List ℕ) (at : ℕ) {tag start n : ℕ} → foundAt bytes at ≡ Whole tag start n → start + n ≤ length bytes
 whole-inside bytes at e = omega (arith, ap endOf e, ends-inside bytes at)
+
+-- a field's body starts behind its front
+abbrev Behind : ℕ → Found → Type 0
+Behind at found = answered found .start ≡ pick (answered found .hasLine) (at + frontLength) 0
+
+starts-behind : (bytes : List ℕ) (at : ℕ) → Behind at (foundAt bytes at)
+unfolding foundAt
+starts-behind bytes at = by (leb (length bytes) at) (ltb (length bytes) (at + frontLength)) (ltb (length bytes) (at + frontLength + lengthAt bytes at))
+  where
+    by : (a b d : Bool) → Behind at (foundBy bytes at a b d)
+    by true b d = refl
+    by false true d = refl
+    by false false true = refl
+    by false false false = refl
+
+pub whole-start : (bytes : List ℕ) (at : ℕ) {tag start n : ℕ} → foundAt bytes at ≡ Whole tag start n → start ≡ at + frontLength
+whole-start bytes at e = subst (Behind at) e (starts-behind bytes at)

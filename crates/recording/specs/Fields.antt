@@ -1,8 +1,13 @@
--- A recording is tagged fields, one after the other: a one-byte tag, a two-byte length with its high byte first, and a body.
+-- A recording is tagged fields, one after the other: a one-byte tag, a two-byte length with its high byte first, and a body. From its bytes:
+-- the whole fields in order, and whether it stops inside one behind them.
 -- Assumes nothing.
-use Prim.Native.Nat.{ℕ, _/_, _%_}
+use Prim.Native.Nat.{ℕ, zero, suc, _/_, _%_}
+use mathlib.Core.Bool.{Bool, true, false}
 use mathlib.Core.List.{List, [], _∷_, _++_}
-use lib.ListN.{length}
+use lib.ListN.{length, take, drop}
+use Rattle.recording.specs.Found.{foundAt, endOf}
+use Rattle.recording.specs.declared.Found.{Found}
+use Rattle.recording.specs.declared.Found.the-variants.{Whole, Cut, End}
 
 pub record Field : Type 0 where
   pub tag : ℕ
@@ -20,3 +25,22 @@ written f = frontOf (f .tag) (length (f .body)) ++ f .body
 unfoldable pub joined : List Field → List ℕ
 joined [] = []
 joined (f ∷ fs) = written f ++ joined fs
+
+pub record Recording : Type 0 where
+  pub fields : List Field
+  pub cut : Bool
+
+-- with what is found first, and then the rest
+abbrev pub startedBy : List ℕ → Found → Recording → Recording
+startedBy bytes (Whole tag start n) rest = record { fields = record { tag = tag; body = take n (drop start bytes) } ∷ rest .fields; cut = rest .cut }
+startedBy bytes Cut rest = record { fields = []; cut = true }
+startedBy bytes End rest = record { fields = []; cut = false }
+
+-- at most so many fields
+unfoldable pub readUpTo : ℕ → List ℕ → Recording
+readUpTo zero bytes = record { fields = []; cut = false }
+readUpTo (suc most) bytes = startedBy bytes (foundAt bytes 0) (readUpTo most (drop (endOf (foundAt bytes 0)) bytes))
+
+-- a recording has fewer fields than bytes
+abbrev pub recordingOf : List ℕ → Recording
+recordingOf bytes = readUpTo (length bytes) bytes

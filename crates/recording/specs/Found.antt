@@ -1,6 +1,7 @@
--- What stands in a recording from a byte on: a whole field, one that is cut, or nothing more.
+-- What stands in a recording from a byte on: a whole field, one that is cut, or nothing more; and what that answer means, case by case.
 -- Assumes nothing.
 use Prim.Native.Nat.{ℕ, _+_, _*_}
+use mathlib.Core.Bool.{Bool, true, false}
 use mathlib.Core.List.{List}
 use lib.Dec.{leb, ltb}
 use lib.ListN.{length, getD}
@@ -22,3 +23,28 @@ foundAt bytes at =
     (pick (ltb (length bytes) (at + frontLength)) Cut
     (pick (ltb (length bytes) (at + frontLength + lengthAt bytes at)) Cut
     (Whole (getD bytes at 0) (at + frontLength) (lengthAt bytes at))))
+
+-- The answer's number and values. None of its cases is a refusal, and the number is 0. The listing has a line for a field, whose tag, start
+-- and length are given; else it ends, with `cut` or with `end`, and the values are zero.
+pub record Answered : Type 0 where
+  pub number : ℕ
+  pub hasLine : Bool
+  pub isCut : Bool
+  pub tag : ℕ
+  pub start : ℕ
+  pub length : ℕ
+
+abbrev pub aField : (tag start length : ℕ) → Answered
+aField tag start n = record { number = 0; hasLine = true; isCut = false; tag = tag; start = start; length = n }
+
+abbrev pub theLast : Bool → Answered
+theLast cut = record { number = 0; hasLine = false; isCut = cut; tag = 0; start = 0; length = 0 }
+
+abbrev pub answered : Found → Answered
+answered (Whole tag start n) = aField tag start n
+answered Cut = theLast true
+answered End = theLast false
+
+-- where a field that is found ends; 0 where none is
+abbrev pub endOf : Found → ℕ
+endOf found = answered found .start + answered found .length

@@ -1,4 +1,5 @@
-pub mod Fields
 pub mod Found
+pub mod Fields
 pub mod Lines
+pub mod Texts
 pub mod Promises

@@ -1,11 +1,12 @@
 // A recording: tagged fields, one after the other (specs/Fields.antt); what stands in it from a byte on, and the line that the listing
-// has for a field.
+// has for a field, as numbers and as text.
 ghost use mathlib.Core.Path.{_≡_};
-ghost use Prim.Native.Nat.{_<_};
 ghost use lib.ListN.{length};
 ghost use Rattle.recording.specs.Fields.{frontOf};
-ghost use Rattle.recording.specs.Found.{foundAt};
+ghost use Rattle.recording.specs.Found.{lengthAt, foundAt};
 ghost use Rattle.recording.specs.Lines.{seqAfter, refusedLine, lineOf, roomListed};
+
+pub mod text;
 
 // A tag and a length of two bytes stand in front of a body.
 pub const FRONT: usize = 3;
@@ -20,17 +21,18 @@ pub enum Found {
     End,
 }
 
-fn wide(b: u8) -> usize
-    ensures { λ r. ⌜ (r ≡ b) × (r < 256) ⌝ }
-{
-    b as usize
-}
-
 // The front of a field: its tag and the length of its body, high byte first.
 pub fn front_of(tag: u8, length: u16) -> [u8; 3]
     ensures { λ r. ⌜ r ≡ frontOf tag length ⌝ }
 {
     [tag, (length / 256) as u8, (length % 256) as u8]
+}
+
+// The length of the body behind such a front.
+pub fn body_length(front: [u8; 3]) -> u16
+    ensures { λ r. ⌜ r ≡ lengthAt front 0 ⌝ }
+{
+    bits::two_bytes(front[1], front[2])
 }
 
 // What stands at byte `at`.
@@ -44,7 +46,7 @@ pub fn next_field(bytes: &[u8], at: usize) -> Found
     if left < FRONT {
         return Found::Cut;
     }
-    let length = wide(bytes[at + 1]) * 256 + wide(bytes[at + 2]);
+    let length = body_length([bytes[at], bytes[at + 1], bytes[at + 2]]) as usize;
     if left - FRONT < length {
         return Found::Cut;
     }

@@ -39,8 +39,12 @@ use Rattle.watch.proofs.begin
 use Rattle.watch.proofs.step
 use Rattle.watch.proofs.offer
 use Rattle.recording.proofs.front_of
+use Rattle.recording.proofs.body_length
 use Rattle.recording.proofs.next_field
 use Rattle.recording.proofs.line_of
+use Rattle.recording.proofs.text.put_first
+use Rattle.recording.proofs.text.put_line
+use Rattle.recording.proofs.text.put_last
 use Rattle.c_numbers.proofs.in_byte
 use Rattle.c_numbers.proofs.in_pair
 use Rattle.c_numbers.proofs.is_on
@@ -120,8 +124,12 @@ pub record AllSettled : Type 0 where
   pub offer : Settled offer.ended offered
   -- recording
   pub front-of : Settled front_of.ended front_of.Reads.Learnt
+  pub body-length : Settled body_length.ended body_length.Reads.Learnt
   pub next-field : Settled next_field.ended next_field.Reads.Learnt
   pub line-of : Settled line_of.ended line_of.Reads.Learnt
+  pub put-first : Settled put_first.ended put_first.Reads.Learnt
+  pub put-line : Settled put_line.ended put_line.Reads.Learnt
+  pub put-last : Settled put_last.ended put_last.Reads.Learnt
   -- c_numbers
   pub in-byte : Settled in_byte.ended in_byte.Reads.Learnt
   pub in-pair : Settled in_pair.ended in_pair.Reads.Learnt

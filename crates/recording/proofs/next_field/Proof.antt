@@ -1,7 +1,7 @@
 -- `recording::next_field` meets its contract: its tests are those of `foundAt`, with differences where a sum could overflow.
 -- Assumes nothing.
-use mathlib.Core.Path.{_≡_, refl, sym, ap, ap₂}
-use Prim.Native.Nat.{ℕ, _+_, _-_, _*_}
+use mathlib.Core.Path.{refl, ap}
+use Prim.Native.Nat.{_+_}
 use native.Mathlib.Omega.{arith}
 use borrow.Author.Needs.{needs}
 use borrow.Author.Tests.{le-leb, lt-leb, lt-ltb, le-ltb}
@@ -25,54 +25,48 @@ returns-2 c =
     let a = c .before .before .before .args in
     no _ refl (lt-leb _ _ (c .before .if1 .left)) (yes _ refl (lt-ltb (length (a .bytes .now)) (a .at + frontLength) (omega arith)) refl)
 
-add-wide : tie.Need-add-wide
-add-wide c = search needs
+shared-slice-read-t9 : tie.Need-shared-slice-read-t9
+shared-slice-read-t9 c = search needs
 
-shared-slice-read-wide : tie.Need-shared-slice-read-wide
-shared-slice-read-wide c = search needs
+add-t5 : tie.Need-add-t5
+add-t5 c = search needs
 
-wide-requires : tie.Need-wide-requires
-wide-requires c κs = search needs
+shared-slice-read-t11 : tie.Need-shared-slice-read-t11
+shared-slice-read-t11 c = search needs
 
-mul-length : tie.Need-mul-length
-mul-length c = search needs
+add-t12 : tie.Need-add-t12
+add-t12 c = search needs
 
-add-wide-2 : tie.Need-add-wide-2
-add-wide-2 c = search needs
+shared-slice-read-t14 : tie.Need-shared-slice-read-t14
+shared-slice-read-t14 c = search needs
 
-shared-slice-read-wide-2 : tie.Need-shared-slice-read-wide-2
-shared-slice-read-wide-2 c = search needs
+body-length-requires : tie.Need-body-length-requires
+body-length-requires c κs = search needs
 
-wide-requires-2 : tie.Need-wide-requires-2
-wide-requires-2 c κs = search needs
-
-add-length : tie.Need-add-length
-add-length c = search needs
+cast-length : tie.Need-cast-length
+cast-length c = search needs
 
 returns-3 : tie.Need-returns-3
 unfolding foundAt
 returns-3 c =
     let a = c .before .before .before .before .before .before .before .before .args in
     let s = a .bytes .now in
-    let e : lengthAt s (a .at) ≡ c .before .before .before .wide .result * 256 + c .before .wide2 .result =
-    sym (ap₂ (λ (x y : ℕ). x * 256 + y) (c .before .before .before .wide .ensures .0) (c .before .wide2 .ensures .0)) in
     no _ refl (lt-leb _ _ (c .before .before .before .before .before .before .if1 .left))
     (no _ refl (le-ltb (length s) (a .at + frontLength) (omega arith))
-    (yes _ refl (lt-ltb (length s) (a .at + frontLength + lengthAt s (a .at)) (omega (arith, e))) refl))
+    (yes _ refl (lt-ltb (length s) (a .at + frontLength + lengthAt s (a .at)) (omega (arith, c .before .body-length .ensures))) refl))
 
-shared-slice-read-t14 : tie.Need-shared-slice-read-t14
-shared-slice-read-t14 c = search needs
+shared-slice-read-t14-2 : tie.Need-shared-slice-read-t14-2
+shared-slice-read-t14-2 c = search needs
 
-add-t12 : tie.Need-add-t12
-add-t12 c = search needs
+add-t12-2 : tie.Need-add-t12-2
+add-t12-2 c = search needs
 
 returns-4 : tie.Need-returns-4
 unfolding foundAt
 returns-4 c =
     let a = c .before .before .before .before .before .before .before .before .before .args in
     let s = a .bytes .now in
-    let e : c .before .before .before .before .wide .result * 256 + c .before .before .wide2 .result ≡ lengthAt s (a .at) =
-    ap₂ (λ (x y : ℕ). x * 256 + y) (c .before .before .before .before .wide .ensures .0) (c .before .before .wide2 .ensures .0) in
+    let e = c .before .before .body-length .ensures in
     no _ refl (lt-leb _ _ (c .before .before .before .before .before .before .before .if1 .left))
     (no _ refl (le-ltb (length s) (a .at + frontLength) (omega arith))
     (no _ refl (le-ltb (length s) (a .at + frontLength + lengthAt s (a .at)) (omega (arith, e))) (ap (Whole (getD s (a .at) 0) (a .at + frontLength)) e)))
@@ -84,15 +78,14 @@ next-field-spec =
     returns
     sub-left
     returns-2
-    add-wide
-    shared-slice-read-wide
-    wide-requires
-    mul-length
-    add-wide-2
-    shared-slice-read-wide-2
-    wide-requires-2
-    add-length
-    returns-3
-    shared-slice-read-t14
+    shared-slice-read-t9
+    add-t5
+    shared-slice-read-t11
     add-t12
+    shared-slice-read-t14
+    body-length-requires
+    cast-length
+    returns-3
+    shared-slice-read-t14-2
+    add-t12-2
     returns-4)
