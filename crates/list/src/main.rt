@@ -1,5 +1,5 @@
 // Lists a recording: the file that the argument names, or standard input. A line a field as it comes, with memory for one field and
-// its words; what a field is, and the numbers of its line, are the library's.
+// its words; what a field is, and the text of its line, are the library's.
 ghost use mathlib.Core.Path.{_≡_};
 ghost use mathlib.Core.Logic.{_⊎_};
 ghost use Prim.Native.Nat.{_<_, _≤_};
@@ -16,36 +16,29 @@ const FIELD_BYTES: usize = 65538;
 
 const MOST_WORDS: usize = 21008;
 
-fn write(text: &[u8]) {
-    io::write_all(STDOUT_FILENO, text);
-}
-
-fn write_number(n: u64) {
-    io::print_decimal(STDOUT_FILENO, n);
-}
-
-// Three dashes stand for the numbers of a field that is refused.
-fn write_line(line: Line) {
-    write_number(line.seq);
-    if line.answer == ground::ACCEPTED {
-        write(b" ");
-        write_number(line.block as u64);
-        write(b" ");
-        write_number(line.version as u64);
-        write(b" ");
-        write_number(line.words as u64);
-        write(b" ");
-    } else {
-        write(b" - - - ");
+// The first `end` bytes of the room that a line was put into, in one write.
+fn write_text(room: &[u8], end: usize) {
+    if end <= room.len() {
+        io::write_all(STDOUT_FILENO, &room[..end]);
     }
-    write_number(line.answer as u64);
-    write(b"\n");
 }
 
-fn wide(b: u8) -> usize
-    ensures { λ r. ⌜ r < 256 ⌝ }
-{
-    b as usize
+fn write_first() {
+    let mut text = [0u8; recording::text::LINE_BYTES];
+    let end = recording::text::put_first(&mut text);
+    write_text(&text, end);
+}
+
+fn write_line(line: Line) {
+    let mut text = [0u8; recording::text::LINE_BYTES];
+    let end = recording::text::put_line(line, &mut text);
+    write_text(&text, end);
+}
+
+fn write_last(cut: bool, fields: u64) {
+    let mut text = [0u8; recording::text::LINE_BYTES];
+    let end = recording::text::put_last(cut, fields, &mut text);
+    write_text(&text, end);
 }
 
 // Reads a field's front, and then as many bytes as it says; the bytes that came.
@@ -58,7 +51,8 @@ fn read_field(fd: i32, field: &mut [u8]) -> usize
     if got < front {
         return got;
     }
-    let end = front + wide(field[1]) * 256 + wide(field[2]);
+    let length = recording::body_length([field[0], field[1], field[2]]) as usize;
+    let end = front + length;
     let more = io::read_full(fd, &mut field[front..end]);
     front + more
 }
@@ -86,25 +80,23 @@ fn list_field(fd: i32, name: &[u8], seen: u64, field: &mut [u8], room: &mut [u16
             seq
         }
         Found::Cut => {
-            finish(fd, name, b"cut ", seen);
+            finish(fd, name, true, seen);
             0
         }
         Found::End => {
-            finish(fd, name, b"end ", seen);
+            finish(fd, name, false, seen);
             0
         }
     }
 }
 
 // The last line, with the number of complete fields; or, where reading failed, a message instead.
-fn finish(fd: i32, name: &[u8], how: &[u8], fields: u64) {
+fn finish(fd: i32, name: &[u8], cut: bool, fields: u64) {
     if has_failed(fd) {
         os::fail(name);
         return;
     }
-    write(how);
-    write_number(fields);
-    write(b"\n");
+    write_last(cut, fields);
 }
 
 // A proved loop has to end, and nothing says that a recording does: so it goes to a number of fields that none has.
@@ -125,7 +117,7 @@ fn list_fields(fd: i32, name: &[u8], field: &mut [u8], room: &mut [u16])
 fn list(fd: i32, name: &[u8]) {
     let mut field = [0u8; FIELD_BYTES];
     let mut room = [0u16; MOST_WORDS];
-    write(b"seq block version words answer\n");
+    write_first();
     list_fields(fd, name, &mut field, &mut room);
 }
 

@@ -58,17 +58,11 @@ write-line-requires c κs = search needs
 enum-told : tie.Need-enum-told
 enum-told c = search needs
 
-slice-aggregate-finish : tie.Need-slice-aggregate-finish
-slice-aggregate-finish c = search needs
-
 finish-requires : tie.Need-finish-requires
 finish-requires c κs = search needs
 
 enum-told-2 : tie.Need-enum-told-2
 enum-told-2 c = search needs
-
-slice-aggregate-finish-2 : tie.Need-slice-aggregate-finish-2
-slice-aggregate-finish-2 c = search needs
 
 finish-requires-2 : tie.Need-finish-requires-2
 finish-requires-2 c κs = search needs
@@ -116,10 +110,8 @@ list-field-spec =
     line-of-requires
     write-line-requires
     enum-told
-    slice-aggregate-finish
     finish-requires
     enum-told-2
-    slice-aggregate-finish-2
     finish-requires-2
     same-length
     same-length-2

@@ -22,26 +22,23 @@ same-length c = search needs
 returns : tie.Need-returns
 returns c = search needs
 
-slice-read-wide : tie.Need-slice-read-wide
-slice-read-wide c = search needs
+slice-read-t13 : tie.Need-slice-read-t13
+slice-read-t13 c = search needs
 
-wide-requires : tie.Need-wide-requires
-wide-requires c κs = search needs
+slice-read-t15 : tie.Need-slice-read-t15
+slice-read-t15 c = search needs
 
-mul-end : tie.Need-mul-end
-mul-end c = search needs
+slice-read-t17 : tie.Need-slice-read-t17
+slice-read-t17 c = search needs
+
+body-length-requires : tie.Need-body-length-requires
+body-length-requires c κs = search needs
+
+cast-length : tie.Need-cast-length
+cast-length c = search needs
 
 add-end : tie.Need-add-end
 add-end c = search needs
-
-slice-read-wide-2 : tie.Need-slice-read-wide-2
-slice-read-wide-2 c = search needs
-
-wide-requires-2 : tie.Need-wide-requires-2
-wide-requires-2 c κs = search needs
-
-add-end-2 : tie.Need-add-end-2
-add-end-2 c = search needs
 
 sub-read-full : tie.Need-sub-read-full
 sub-read-full c = search needs
@@ -73,13 +70,12 @@ read-field-spec =
     read-full-requires
     same-length
     returns
-    slice-read-wide
-    wide-requires
-    mul-end
+    slice-read-t13
+    slice-read-t15
+    slice-read-t17
+    body-length-requires
+    cast-length
     add-end
-    slice-read-wide-2
-    wide-requires-2
-    add-end-2
     sub-read-full
     part-read-full-start
     part-read-full-end
