@@ -12,12 +12,12 @@ use lib.Seq.{take-at, drop-at, drop-append-add, length-take-le}
 use Rattle.ground.specs.Grounds.{_when_}
 use Rattle.ground.proofs.LawsChoice.{yes, no}
 use Rattle.bits.specs.Bits.{Below}
-use Rattle.header.specs.Says.{headerLength}
-use Rattle.header.specs.Copies.{copiesLength, tooShort}
+use Rattle.copies.specs.Copies.{headerLength}
+use Rattle.copies.specs.Copies.{copiesLength, tooShort}
 use Rattle.header.specs.Plans.{planOf}
 use Rattle.header.specs.declared.Plan.{Plan}
 use Rattle.header.specs.Promises.{askedPlan}
-use Rattle.header.proofs.LawsAgreed.{copy-long}
+use Rattle.copies.proofs.LawsAgreed.{copy-long}
 use Rattle.header.proofs.KeepsHeader.{grants-asked}
 use Rattle.block.specs.Answers.{answerOf}
 use Rattle.block.specs.Meets.{Meets}
