@@ -97,7 +97,7 @@ header-long block m =
     length-take-le headerLength (m .copy) (omega arith)
 
 -- a block that meets the specification is listed with what its header asks for
-block-line : (before : ℕ) (block : List ℕ) (room : ℕ) → Below 256 block → (m : Meets block) → m .words ≤ room
+pub block-line : (before : ℕ) (block : List ℕ) (room : ℕ) → Below 256 block → (m : Meets block) → m .words ≤ room
     → lineOf before 1 block room ≡ record { seq = seqAfter before; answer = 0; block = m .number; version = m .version; words = m .words }
 unfolding lineOf
 block-line before block room bytes m r =
@@ -107,11 +107,11 @@ block-line before block room bytes m r =
     sym (yes _ refl (eq-eqb (a .number) 0 (accepts-exactly .accepts block room bytes m r)) refl)
     ∙ ap₂ (λ (p : Plan) (w : ℕ). record { seq = seqAfter before; answer = 0; block = p .block; version = p .version; words = w }) plan (answers-truly .count block room bytes m r)
 
-refused-line : (before : ℕ) (body : List ℕ) (room : ℕ) → (answerOf body room .number ≡ 0 → ⊥) → lineOf before 1 body room ≡ refusedLine (seqAfter before) (answerOf body room .number)
+pub refused-line : (before : ℕ) (body : List ℕ) (room : ℕ) → (answerOf body room .number ≡ 0 → ⊥) → lineOf before 1 body room ≡ refusedLine (seqAfter before) (answerOf body room .number)
 unfolding lineOf
 refused-line before body room f = sym (no _ refl (ne-eqb (answerOf body room .number) 0 f) refl)
 
-other-line : (before tag : ℕ) (body : List ℕ) (room : ℕ) → (tag ≡ 1 → ⊥) → lineOf before tag body room ≡ refusedLine (seqAfter before) 15
+pub other-line : (before tag : ℕ) (body : List ℕ) (room : ℕ) → (tag ≡ 1 → ⊥) → lineOf before tag body room ≡ refusedLine (seqAfter before) 15
 unfolding lineOf
 other-line before tag body room f = sym (no _ refl (ne-eqb tag 1 f) refl)
 

@@ -48,23 +48,23 @@ answered block lent bytes =
 
 -- ---- 2
 
-behind-last : (xs : List ℕ) (i : ℕ) → length xs ≤ i → getD xs i 0 ≡ 0
+pub behind-last : (xs : List ℕ) (i : ℕ) → length xs ≤ i → getD xs i 0 ≡ 0
 behind-last [] i l = refl
 behind-last (x ∷ xs) zero l = absurd (omega arith)
 behind-last (x ∷ xs) (suc i) l = behind-last xs i (omega arith)
 
 module _ {block : List ℕ} (m : Meets block) where
-  abbrev a : Asked (m .header)
+  abbrev pub a : Asked (m .header)
   a = m .asked
 
-  bytes-are : a .bits / 8 ≡ fieldBytes (a .block) (a .words)
+  pub bytes-are : a .bits / 8 ≡ fieldBytes (a .block) (a .words)
   unfolding fieldBytes
   bytes-are = ap (λ (n : ℕ). n / 8) (bits-field (a .long))
 
-  bits-are : fieldBytes (a .block) (a .words) * 8 ≡ a .bits
+  pub bits-are : fieldBytes (a .block) (a .words) * 8 ≡ a .bits
   bits-are = let e = bytes-are in let w = ap (λ (n : ℕ). n % 16) (bits-field (a .long)) ∙ bits-whole (a .block) (a .words) in omega arith
 
-  meets-block : reader.Meets block
+  unfoldable pub meets-block : reader.Meets block
   meets-block =
       record {
         copy = m .found .common;
@@ -113,7 +113,7 @@ block-meets {block} m =
 
 module _ (block : List ℕ) (lent : ℕ) (bytes : Below 256 block) where
   -- an accepted block was given room for its words
-  enough : Accepted block lent → (m : reader.Meets block) → m .words ≤ lent
+  pub enough : Accepted block lent → (m : reader.Meets block) → m .words ≤ lent
   enough e m = go (ltb lent (m .words)) refl
     where
       go : (t : Bool) → ltb lent (m .words) ≡ t → m .words ≤ lent

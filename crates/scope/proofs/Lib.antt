@@ -9,4 +9,5 @@ pub mod KeepsParity
 pub mod KeepsWatch
 pub mod KeepsTable
 pub mod KeepsDemands
+pub mod KeepsRecording
 pub mod KeepsSettled

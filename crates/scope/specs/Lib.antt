@@ -8,5 +8,6 @@ pub mod Parity
 pub mod Watch
 pub mod Table
 pub mod Demands
+pub mod Recording
 pub mod Outcomes
 pub mod Settled
