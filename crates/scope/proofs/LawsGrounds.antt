@@ -35,7 +35,7 @@ use Rattle.block.proofs.LawsReader.{field-long}
 use Rattle.block.proofs.LawsMeets.{fill-each}
 use Rattle.scope.specs.Notions.{word, bit}
 use Rattle.scope.specs.Blocks.{Agrees, Passing, Asked}
-use Rattle.scope.specs.Refusals.{UnknownBlock, UnknownVersion, WrongSize, WrongCount, headerReasons, Said, copiesReasons, fieldReasons}
+use Rattle.scope.specs.Refusals.{headerReasons, Said, copiesReasons, fieldReasons}
 use Rattle.scope.proofs.LawsReasons.{Tells, told-as, tells-eq, tells-less, tells-not, AllTell}
 use Rattle.scope.proofs.LawsFormat.{agrees-passes, passes-agrees, copy-place, place-copy, agreed-header, header-agreed, asked-asks, asked-field, asked-whole}
 
@@ -63,17 +63,17 @@ module _ (h : List ℕ) where
   block-is : {b : ℕ} → IsBlock (word 1 h) b → blockIn h ≡ b
   block-is = is-number
 
-  tells-block : Tells (unknownBlock h) (UnknownBlock h)
+  tells-block : Tells (unknownBlock h) ((b : ℕ) → IsBlock (word 1 h) b → ⊥)
   tells-block =
       record {
         yes = λ y b i. omega (arith, ltb-true 11 (blockIn h) y, block-is i, is-known i);
         no = λ n f. f (blockIn h) (number-is (word 1 h) (ltb-false 11 (blockIn h) n));
       }
 
-  tells-version : Tells (unknownVersion h) (UnknownVersion h)
+  tells-version : Tells (unknownVersion h) (3 < word 8 h)
   tells-version = tells-less 3 (versionIn h)
 
-  tells-size : unknownBlock h ≡ false → Tells (wrongSize h) (WrongSize h)
+  tells-size : unknownBlock h ≡ false → Tells (wrongSize h) ((b C : ℕ) → IsBlock (word 1 h) b → Suits b (word 8 h) (word 2 h) C → ⊥)
   tells-size known =
       record {
         yes = λ y b C i s. let e = block-is i in eqb-false (rowIn h .size) (sizeIn h) (not-true (eqb (rowIn h .size) (sizeIn h)) y)
@@ -91,7 +91,7 @@ module _ (h : List ℕ) where
       let same : wordsIn h ≡ C = omega arith in
       (λ j. few j || not (permits (rowOf (block-is i j) (versionIn h) (sizeIn h)) (same j))) ∙ ap not (suits-takes s .counted)
 
-  tells-count : unknownBlock h ≡ false → unknownVersion h ≡ false → wrongSize h ≡ false → Tells (wrongCount h) (WrongCount h)
+  tells-count : unknownBlock h ≡ false → unknownVersion h ≡ false → wrongSize h ≡ false → Tells (wrongCount h) ((b C : ℕ) → IsBlock (word 1 h) b → word 3 h * 256 + word 4 h ≡ C + 2 → Suits b (word 8 h) (word 2 h) C → ⊥)
   tells-count k v w =
       record {
         yes = λ y b C i e s. never (sym (count-suits i e s) ∙ y);
@@ -102,15 +102,15 @@ module _ (h : List ℕ) where
   pub header-tells : (says : (List ℕ → Type 0) → Type 0) → ((P : List ℕ → Type 0) → P h ↔ says P) → AllTell (headerGrounds h) (headerReasons says)
   header-tells says e = (
     refl,
-    told-as (e UnknownBlock) tells-block,
+    told-as (e _) tells-block,
     λ k _. (
       refl,
-      told-as (e UnknownVersion) tells-version,
+      told-as (e _) tells-version,
       λ v _. (
         refl,
-        told-as (e WrongSize) (tells-size k),
+        told-as (e _) (tells-size k),
         λ w _.
-            (refl, told-as (e WrongCount) (tells-count k v w), λ _ _. tt),
+            (refl, told-as (e _) (tells-count k v w), λ _ _. tt),
       ),
     ),
   )

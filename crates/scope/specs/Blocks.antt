@@ -1,5 +1,4 @@
--- What the unit receives, and the header.
--- Assumes nothing.
+-- What the unit receives, and the header. Assumes nothing.
 use Prim.Native.Nat.{ℕ, _+_, _*_, _/_, _%_, _≤_}
 use mathlib.Core.Path.{_≡_}
 use mathlib.Core.List.{List, [], _∷_, _++_}

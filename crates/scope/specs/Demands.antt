@@ -1,5 +1,4 @@
--- The three demands.
--- Assumes nothing.
+-- The three demands. Assumes nothing.
 use Prim.Native.Nat.{ℕ, _+_, _*_, _/_, _≤_, _<_}
 use mathlib.Core.Path.{_≡_}
 use mathlib.Core.Logic.{_⊎_, _↔_}

@@ -1,5 +1,4 @@
--- What the statements of this folder are made of: the first of several reasons, bits, words that count from 1.
--- Assumes nothing.
+-- What the statements of this folder are made of: the first of several reasons, bits, words that count from 1. Assumes nothing.
 use Prim.Native.Nat.{ℕ, _-_}
 use mathlib.Core.Path.{_≡_}
 use mathlib.Core.Logic.{_⊎_}

@@ -1,6 +1,5 @@
 -- What a contract settles: any two outcomes that it allows for the same arguments are equal, the answer and what lent places hold after.
--- `Ended` is a function's signature with what its contract sees at the end, `Lasts` the values that the lent places are left with.
--- Assumes nothing.
+-- `Ended` is a function's signature with what its contract sees at the end, `Lasts` the values that the lent places are left with. Assumes nothing.
 use mathlib.Core.Path.{_≡_, refl}
 use base.Logic.{emp}
 use contract.Lifetimes.{Lfts}

@@ -1,5 +1,4 @@
--- Recording and listing. What the listing prints is promised by the crate `recording` in the scope's own text, and cited.
--- Assumes nothing.
+-- Recording and listing. What the listing prints is promised by the crate `recording` in the scope's own text, and cited. Assumes nothing.
 use Prim.Native.Nat.{ℕ, _+_, _/_, _%_, _<_}
 use mathlib.Core.Path.{_≡_}
 use mathlib.Core.List.{List, _∷_}

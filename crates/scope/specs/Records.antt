@@ -1,5 +1,4 @@
--- Detector records: how many, where they lie, what they hold.
--- Assumes nothing.
+-- Detector records: how many, where they lie, what they hold. Assumes nothing.
 use Prim.Native.Nat.{ℕ, _+_, _-_, _*_, _/_, _<_, _≤_}
 use mathlib.Core.Path.{_≡_}
 use mathlib.Core.List.{List, [], _∷_}

@@ -1,5 +1,4 @@
--- Numbers given on refusal: each on its ground, in the order of the tests, and what a refusal holds and leaves.
--- Assumes nothing.
+-- Numbers given on refusal: each on its ground, in the order of the tests, and what a refusal holds and leaves. Assumes nothing.
 use Prim.Native.Nat.{ℕ, _+_, _*_, _/_, _%_, _^_, _≤_, _<_}
 use mathlib.Core.Path.{_≡_}
 use mathlib.Core.Logic.{_⊎_}
@@ -19,23 +18,16 @@ use Rattle.scope.specs.Notions.{Reason, _if_, FirstOf, word, bit}
 use Rattle.scope.specs.Blocks.{Agrees, Passing, Header, Asked}
 use Rattle.scope.specs.Records.{RecordsIn}
 
--- ---- the reasons, by what they are read off: `in h` says of a header h, `Said` finds it among a block's copies
+-- A reason that a header gives is said of the header, which is lent, or found among a block's copies.
 
 -- 4: unknown block id. 5: version above 3. 6: word size not in the block's row: no count has it there. 7: count not in the block's row.
-abbrev pub UnknownBlock : List ℕ → Type 0
-UnknownBlock h = (b : ℕ) → IsBlock (word 1 h) b → ⊥
-
-abbrev pub UnknownVersion : List ℕ → Type 0
-UnknownVersion h = 3 < word 8 h
-
-abbrev pub WrongSize : List ℕ → Type 0
-WrongSize h = (b C : ℕ) → IsBlock (word 1 h) b → Suits b (word 8 h) (word 2 h) C → ⊥
-
-abbrev pub WrongCount : List ℕ → Type 0
-WrongCount h = (b C : ℕ) → IsBlock (word 1 h) b → word 3 h * 256 + word 4 h ≡ C + 2 → Suits b (word 8 h) (word 2 h) C → ⊥
-
 abbrev pub headerReasons : ((List ℕ → Type 0) → Type 0) → List Reason
-headerReasons says = 4 if says UnknownBlock ∷ 5 if says UnknownVersion ∷ 6 if says WrongSize ∷ 7 if says WrongCount ∷ []
+headerReasons says =
+    4 if says (λ h. (b : ℕ) → IsBlock (word 1 h) b → ⊥)
+    ∷ 5 if says (λ h. 3 < word 8 h)
+    ∷ 6 if says (λ h. (b C : ℕ) → IsBlock (word 1 h) b → Suits b (word 8 h) (word 2 h) C → ⊥)
+    ∷ 7 if says (λ h. (b C : ℕ) → IsBlock (word 1 h) b → word 3 h * 256 + word 4 h ≡ C + 2 → Suits b (word 8 h) (word 2 h) C → ⊥)
+    ∷ []
 
 -- of a lent header, which is 1 where it is not of 28 bytes
 abbrev pub planReasons : List ℕ → List Reason
@@ -101,12 +93,9 @@ pub record Numbers : Type 0 where
 
 -- ---- what a refusal holds: its number, and zeros; and it leaves every lent byte and word unchanged
 
-abbrev pub zeros : ℕ → List ℕ
-zeros n = replicate n 0
-
 pub record Refusals : Type 0 where
   pub reader : (block : List ℕ) (lent : ℕ) → (answerOf block lent .number ≡ 0 → ⊥)
-      → answerOf block lent ≡ record { number = answerOf block lent .number; header = zeros 28; first = false; second = false; third = false; words = 0 }
+      → answerOf block lent ≡ record { number = answerOf block lent .number; header = replicate 28 0; first = false; second = false; third = false; words = 0 }
   pub words-left : (block room : List ℕ) → (answerOf block (length room) .number ≡ 0 → ⊥) → roomAfter block room ≡ room
   pub by : (h block : List ℕ) (lent : ℕ) → (judgedBy h block lent .number ≡ 0 → ⊥) → judgedBy h block lent ≡ record { number = judgedBy h block lent .number; words = 0 }
   pub by-left : (h block room : List ℕ) → (judgedBy h block (length room) .number ≡ 0 → ⊥) → roomBy h block room ≡ room
@@ -116,6 +105,6 @@ pub record Refusals : Type 0 where
   pub part : (h : List ℕ) (k : ℕ) (ws : List ℕ) → (partOf h k (length ws) .number ≡ 0 → ⊥) → recordOf h k ws ≡ []
   pub placement : (b v k : ℕ) → (placeOf b v k .number ≡ 0 → ⊥) → placeOf b v k ≡ record { number = placeOf b v k .number; channel = 0; detector = 0 }
   pub copies : (block : List ℕ) → (commonOf block .number ≡ 0 → ⊥)
-      → commonOf block ≡ record { number = commonOf block .number; header = zeros 28; first = false; second = false; third = false }
+      → commonOf block ≡ record { number = commonOf block .number; header = replicate 28 0; first = false; second = false; third = false }
   pub plan : (h : List ℕ) → (planOf h .number ≡ 0 → ⊥)
       → planOf h ≡ record { number = planOf h .number; block = 0; version = 0; size = 0; records = 0; words = 0; bytes = 0 }

@@ -1,5 +1,4 @@
--- Every public function, and that its contract settles its outcome.
--- Assumes nothing.
+-- Every public function, and that its contract settles its outcome. Assumes nothing.
 use mathlib.Core.Path.{_≡_}
 use denote.Ref.{now}
 use Rattle.bits.proofs.two_bytes
@@ -69,92 +68,41 @@ use Rattle.c_watch.proofs.rahmisve_watch_offer
 use Rattle.scope.specs.Outcomes.{Settled, SettledUpTo, offered}
 
 pub record AllSettled : Type 0 where
-  -- bits
-  pub two-bytes : Settled two_bytes.ended two_bytes.Reads.Learnt
-  pub take-words : Settled take_words.ended take_words.Reads.Learnt
-  pub put-words : Settled put_words.ended put_words.Reads.Learnt
-  pub fill-is-zero : Settled fill_is_zero.ended fill_is_zero.Reads.Learnt
-  -- check_eight
-  pub word-behind : Settled word_behind.ended word_behind.Reads.Learnt
-  pub check-from : Settled check_from.ended check_from.Reads.Learnt
-  pub check-by-eight : Settled check_by_eight.ended check_by_eight.Reads.Learnt
-  -- check_window
-  pub check-by-turn : Settled check_by_turn.ended check_by_turn.Reads.Learnt
-  -- check_word
-  pub check-word : Settled check_word.ended check_word.Reads.Learnt
-  pub passes : Settled passes.ended passes.Reads.Learnt
-  -- room
-  pub lay : Settled lay.ended lay.Reads.Learnt
-  -- row
-  pub to-visible : Settled to_visible.ended to_visible.Reads.Learnt
-  pub row-of : Settled row_of.ended row_of.Reads.Learnt
-  pub scan-of : Settled scan_of.ended scan_of.Reads.Learnt
-  pub permits : Settled permits.ended permits.Reads.Learnt
-  pub field-bytes : Settled field_bytes.ended field_bytes.Reads.Learnt
-  -- copies
-  pub common-copy : Settled common_copy.ended common_copy.Reads.Learnt
-  -- header
-  pub plan-of : Settled plan_of.ended plan_of.Reads.Learnt
-  -- block
-  pub read-by : Settled read_by.ended read_by.Reads.Learnt
-  pub read : Settled read.ended read.Reads.Learnt
-  -- records
-  pub locate : Settled locate.ended locate.Reads.Learnt
-  -- the words of the part; where it stands is left open
-  pub record-in : SettledUpTo record_in.ended (λ _ a b. now a ≡ now b) record_in.Reads.Learnt
-  -- writer
-  pub write : Settled write.ended write.Reads.Learnt
-  -- placement
-  pub place : Settled place.ended place.Reads.Learnt
-  -- parity
-  pub parity-of : Settled parity_of.ended parity_of.Reads.Learnt
-  pub ground-of : Settled ground_of.ended ground_of.Reads.Learnt
-  pub check-sections : Settled check_sections.ended check_sections.Reads.Learnt
-  -- tag
-  pub in-bounds : Settled in_bounds.ended in_bounds.Reads.Learnt
-  pub zero-tag : Settled zero_tag.ended zero_tag.Reads.Learnt
-  pub read-tag : Settled read_tag.ended read_tag.Reads.Learnt
-  pub write-tag : Settled write_tag.ended write_tag.Reads.Learnt
-  -- time
-  pub between : Settled between.ended between.Reads.Learnt
-  pub elapsed : Settled elapsed.ended elapsed.Reads.Learnt
-  -- watch
-  pub begin : Settled begin.ended begin.Reads.Learnt
-  pub step : Settled step.ended step.Reads.Learnt
-  pub offer : Settled offer.ended offered
-  -- recording
-  pub front-of : Settled front_of.ended front_of.Reads.Learnt
-  pub body-length : Settled body_length.ended body_length.Reads.Learnt
-  pub next-field : Settled next_field.ended next_field.Reads.Learnt
-  pub line-of : Settled line_of.ended line_of.Reads.Learnt
-  pub put-first : Settled put_first.ended put_first.Reads.Learnt
-  pub put-line : Settled put_line.ended put_line.Reads.Learnt
-  pub put-last : Settled put_last.ended put_last.Reads.Learnt
-  -- c_numbers
-  pub in-byte : Settled in_byte.ended in_byte.Reads.Learnt
-  pub in-pair : Settled in_pair.ended in_pair.Reads.Learnt
-  pub is-on : Settled is_on.ended is_on.Reads.Learnt
-  pub marked : Settled marked.ended marked.Reads.Learnt
-  -- c_fields
-  pub rahmisve-check-word : Settled rahmisve_check_word.ended rahmisve_check_word.Reads.Learnt
-  pub rahmisve-take-words : Settled rahmisve_take_words.ended rahmisve_take_words.Reads.Learnt
-  pub rahmisve-put-words : Settled rahmisve_put_words.ended rahmisve_put_words.Reads.Learnt
-  -- c_blocks
-  pub rahmisve-read : Settled rahmisve_read.ended rahmisve_read.Reads.Learnt
-  pub rahmisve-plan : Settled rahmisve_plan.ended rahmisve_plan.Reads.Learnt
-  pub rahmisve-write : Settled rahmisve_write.ended rahmisve_write.Reads.Learnt
-  -- c_records
-  pub rahmisve-record : Settled rahmisve_record.ended rahmisve_record.Reads.Learnt
-  pub rahmisve-place : Settled rahmisve_place.ended rahmisve_place.Reads.Learnt
-  -- c_parity
-  pub rahmisve-parity-imager : Settled rahmisve_parity_imager.ended rahmisve_parity_imager.Reads.Learnt
-  pub rahmisve-parity-sounder : Settled rahmisve_parity_sounder.ended rahmisve_parity_sounder.Reads.Learnt
-  -- c_tags
-  pub tag-of : Settled tag_of.ended tag_of.Reads.Learnt
-  pub numbers-of : Settled numbers_of.ended numbers_of.Reads.Learnt
-  pub rahmisve-read-tag : Settled rahmisve_read_tag.ended rahmisve_read_tag.Reads.Learnt
-  pub rahmisve-write-tag : Settled rahmisve_write_tag.ended rahmisve_write_tag.Reads.Learnt
-  pub rahmisve-elapsed : Settled rahmisve_elapsed.ended rahmisve_elapsed.Reads.Learnt
-  -- c_watch
-  pub rahmisve-watch-begin : Settled rahmisve_watch_begin.ended rahmisve_watch_begin.Reads.Learnt
-  pub rahmisve-watch-offer : Settled rahmisve_watch_offer.ended rahmisve_watch_offer.Reads.Learnt
+  pub bits : Settled two_bytes.ended two_bytes.Reads.Learnt × Settled take_words.ended take_words.Reads.Learnt × Settled put_words.ended put_words.Reads.Learnt
+      × Settled fill_is_zero.ended fill_is_zero.Reads.Learnt
+  pub check-eight : Settled word_behind.ended word_behind.Reads.Learnt × Settled check_from.ended check_from.Reads.Learnt
+      × Settled check_by_eight.ended check_by_eight.Reads.Learnt
+  pub check-window : Settled check_by_turn.ended check_by_turn.Reads.Learnt
+  pub check-word : Settled check_word.ended check_word.Reads.Learnt × Settled passes.ended passes.Reads.Learnt
+  pub room : Settled lay.ended lay.Reads.Learnt
+  pub row : Settled to_visible.ended to_visible.Reads.Learnt × Settled row_of.ended row_of.Reads.Learnt × Settled scan_of.ended scan_of.Reads.Learnt
+      × Settled permits.ended permits.Reads.Learnt × Settled field_bytes.ended field_bytes.Reads.Learnt
+  pub copies : Settled common_copy.ended common_copy.Reads.Learnt
+  pub header : Settled plan_of.ended plan_of.Reads.Learnt
+  pub block : Settled read_by.ended read_by.Reads.Learnt × Settled read.ended read.Reads.Learnt
+  -- record-in: the words of the part; where it stands is left open
+  pub records : Settled locate.ended locate.Reads.Learnt × SettledUpTo record_in.ended (λ _ a b. now a ≡ now b) record_in.Reads.Learnt
+  pub writer : Settled write.ended write.Reads.Learnt
+  pub placement : Settled place.ended place.Reads.Learnt
+  pub parity : Settled parity_of.ended parity_of.Reads.Learnt × Settled ground_of.ended ground_of.Reads.Learnt
+      × Settled check_sections.ended check_sections.Reads.Learnt
+  pub tag : Settled in_bounds.ended in_bounds.Reads.Learnt × Settled zero_tag.ended zero_tag.Reads.Learnt × Settled read_tag.ended read_tag.Reads.Learnt
+      × Settled write_tag.ended write_tag.Reads.Learnt
+  pub time : Settled between.ended between.Reads.Learnt × Settled elapsed.ended elapsed.Reads.Learnt
+  pub watch : Settled begin.ended begin.Reads.Learnt × Settled step.ended step.Reads.Learnt × Settled offer.ended offered
+  pub recording : Settled front_of.ended front_of.Reads.Learnt × Settled body_length.ended body_length.Reads.Learnt
+      × Settled next_field.ended next_field.Reads.Learnt × Settled line_of.ended line_of.Reads.Learnt × Settled put_first.ended put_first.Reads.Learnt
+      × Settled put_line.ended put_line.Reads.Learnt × Settled put_last.ended put_last.Reads.Learnt
+  pub c-numbers : Settled in_byte.ended in_byte.Reads.Learnt × Settled in_pair.ended in_pair.Reads.Learnt × Settled is_on.ended is_on.Reads.Learnt
+      × Settled marked.ended marked.Reads.Learnt
+  pub c-fields : Settled rahmisve_check_word.ended rahmisve_check_word.Reads.Learnt × Settled rahmisve_take_words.ended rahmisve_take_words.Reads.Learnt
+      × Settled rahmisve_put_words.ended rahmisve_put_words.Reads.Learnt
+  pub c-blocks : Settled rahmisve_read.ended rahmisve_read.Reads.Learnt × Settled rahmisve_plan.ended rahmisve_plan.Reads.Learnt
+      × Settled rahmisve_write.ended rahmisve_write.Reads.Learnt
+  pub c-records : Settled rahmisve_record.ended rahmisve_record.Reads.Learnt × Settled rahmisve_place.ended rahmisve_place.Reads.Learnt
+  pub c-parity : Settled rahmisve_parity_imager.ended rahmisve_parity_imager.Reads.Learnt
+      × Settled rahmisve_parity_sounder.ended rahmisve_parity_sounder.Reads.Learnt
+  pub c-tags : Settled tag_of.ended tag_of.Reads.Learnt × Settled numbers_of.ended numbers_of.Reads.Learnt
+      × Settled rahmisve_read_tag.ended rahmisve_read_tag.Reads.Learnt × Settled rahmisve_write_tag.ended rahmisve_write_tag.Reads.Learnt
+      × Settled rahmisve_elapsed.ended rahmisve_elapsed.Reads.Learnt
+  pub c-watch : Settled rahmisve_watch_begin.ended rahmisve_watch_begin.Reads.Learnt × Settled rahmisve_watch_offer.ended rahmisve_watch_offer.Reads.Learnt

@@ -1,6 +1,5 @@
 -- Field sizes. The table of word sizes and counts is `Suits` of the crate `row`, printed there as the scope prints it; that the row's
--- decision is this table is its promise `DecidesTable`.
--- Assumes nothing.
+-- decision is this table is its promise `DecidesTable`. Assumes nothing.
 use Prim.Native.Nat.{ℕ, _+_, _*_, _/_, _%_, _≤_, _<_, max}
 use mathlib.Core.Path.{_≡_}
 use Rattle.row.specs.Pixels.{visibleOf}

@@ -1,5 +1,4 @@
--- The table to prove: thirteen rows over the definitions.
--- Assumes nothing.
+-- The table to prove: thirteen rows over the definitions. Assumes nothing.
 use mathlib.Core.Path.{_≡_}
 use mathlib.Core.List.{[], _∷_}
 use Rattle.bits.specs.Fields.{wordsOf}

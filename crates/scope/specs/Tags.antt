@@ -1,5 +1,4 @@
--- CDA time tags.
--- Assumes nothing.
+-- CDA time tags. Assumes nothing.
 use Prim.Native.Nat.{ℕ, _+_, _*_, _/_, _%_, _≤_, _<_}
 use mathlib.Core.Path.{_≡_}
 use mathlib.Core.Logic.{_⊎_, _↔_}

@@ -1,5 +1,4 @@
--- The scan watch.
--- Assumes nothing.
+-- The scan watch. Assumes nothing.
 use Prim.Native.Nat.{ℕ, _+_, _<_}
 use mathlib.Core.Path.{_≡_}
 use mathlib.Core.Logic.{_⊎_}
