@@ -1,14 +1,12 @@
 -- A program that asks for one field after the other prints the listing: what it finds first is the first field of what is left.
 -- Assumes nothing.
-use mathlib.Core.Path.{_≡_, refl, sym, ap, _∙_}
+use mathlib.Core.Path.{_≡_, sym, ap, _∙_}
 use mathlib.Core.Bool.{Bool, true, false}
 use mathlib.Core.List.{List, [], _∷_, _++_, append-assoc}
 use Prim.Native.Nat.{ℕ, zero, suc, _+_, _≤_}
 use native.Mathlib.Nat.{add-zero}
 use native.Mathlib.Omega.{arith}
-use borrow.Author.Tests.{le-leb}
 use lib.ListN.{length, take, drop, length-drop}
-use Rattle.ground.proofs.LawsChoice.{yes}
 use Rattle.ground.proofs.LawsTests.{never}
 use Rattle.recording.specs.Found.{foundAt, answered, endOf}
 use Rattle.recording.specs.Fields.{Field, Recording, startedBy, readUpTo, recordingOf}
@@ -16,8 +14,7 @@ use Rattle.recording.specs.Lines.{mostFields, lineOf}
 use Rattle.recording.specs.Texts.{firstText, lineText, lastText, linesText}
 use Rattle.recording.specs.Promises.{Prints, line, cut, end, PrintsListing}
 use Rattle.recording.specs.declared.Found.{Found}
-use Rattle.recording.specs.declared.Found.the-variants.{End}
-use Rattle.recording.proofs.LawsFound.{whole-inside, whole-start}
+use Rattle.recording.proofs.LawsFound.{whole-inside, whole-start, none-found}
 use Rattle.recording.proofs.LawsLines.{line-seq, seq-next}
 
 -- the lines of what is read behind so many fields, and the last one
@@ -28,10 +25,6 @@ rest room seen r = linesText seen (r .fields) room ++ lastText (r .cut) (seen + 
 found-first : (most : ℕ) (bytes : List ℕ) {found : Found} → foundAt bytes 0 ≡ found → readUpTo (suc most) bytes ≡ startedBy bytes found (readUpTo most (drop (endOf found) bytes))
 unfolding readUpTo
 found-first most bytes e = ap (λ (x : Found). startedBy bytes x (readUpTo most (drop (endOf x) bytes))) e
-
-none-found : (bytes : List ℕ) → length bytes ≤ 0 → foundAt bytes 0 ≡ End
-unfolding foundAt
-none-found bytes l = sym (yes _ refl (le-leb (length bytes) 0 l) refl)
 
 last-only : (room seen : ℕ) (c : Bool) → lastText c seen ≡ rest room seen (record { fields = []; cut = c })
 unfolding linesText

@@ -1,3 +1,4 @@
+pub mod KeepsFields
 pub mod KeepsListing
 pub mod KeepsProgram
 pub mod KeepsPromises

@@ -36,6 +36,12 @@ pub record GivesFields (fields : List Field) : Type 0 where
   pub whole : recordingOf (joined fields) ≡ record { fields = fields; cut = false }
   pub stopped : (f : Field) (k : ℕ) → 0 < k → k < length (written f) → recordingOf (joined fields ++ take k (written f)) ≡ record { fields = fields; cut = true }
 
+-- Any bytes are the fields that they give, with nothing behind them, or where they are cut a field that is not whole.
+abbrev pub MadeOfFields : Type 0
+MadeOfFields =
+    (bytes : List ℕ) → Below 256 bytes
+    → (rest : List ℕ) × ((bytes ≡ joined (recordingOf bytes .fields) ++ rest) × (answered (foundAt rest 0) ≡ theLast (recordingOf bytes .cut)))
+
 -- With room for the words of the largest block no field is refused for want of room.
 abbrev pub NineNever : Type 0
 NineNever = (before tag : ℕ) (body : List ℕ) (room : ℕ) → mostWords ≤ room → lineOf before tag body room .answer ≡ 9 → ⊥
