@@ -13,7 +13,6 @@ use Rattle.scope.specs.Notions.{word}
 use Rattle.scope.specs.Sizes.{FieldBits}
 
 -- ---- the check
-
 -- Generator x^16+x^12+x^5+1, start all ones, result complemented: the ASCII digits 123456789 have the check D64E.
 abbrev pub Vector : Type 0
 Vector = checkWord (0x31 ∷ 0x32 ∷ 0x33 ∷ 0x34 ∷ 0x35 ∷ 0x36 ∷ 0x37 ∷ 0x38 ∷ 0x39 ∷ []) ≡ 0xD64E
@@ -24,7 +23,6 @@ pub record Agrees (s : List ℕ) : Type 0 where
   pub followed : s ≡ message ++ (checkWord message / 256 ∷ checkWord message % 256 ∷ [])
 
 -- ---- the three copies
-
 -- Three header copies of thirty bytes, one after the other: bytes 0-29, 30-59, 60-89.
 pub data Copy (block : List ℕ) : List ℕ → Type 0 where
   first : Copy block (take 30 block)
@@ -45,7 +43,6 @@ pub record Header (block h : List ℕ) : Type 0 where
   pub given : h ≡ take 28 common
 
 -- ---- what a header says
-
 -- Word 1 block id, by the codes that `IsBlock` of the crate `header` prints, word 2 word size, words 3-4 word count, high byte first, word 8
 -- version (0 to 3). The count is of the data words in the field before fill, C, and two more. So many bits is the field long.
 pub record Asked (h : List ℕ) : Type 0 where

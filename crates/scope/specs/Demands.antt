@@ -23,7 +23,6 @@ Answered = (block : List ℕ) (lent : ℕ) → Below 256 block
     → (n : ℕ) × FirstOf (readerReasons block lent) n × ((m : ℕ) → FirstOf (readerReasons block lent) m → m ≡ n) × (answerOf block lent .number ≡ n)
 
 -- ---- 2. Given room for its words, a block is accepted exactly when it meets section 3, and its words are exactly those sent.
-
 -- 90 bytes of header, the information field, and 2 bytes of check word. The block check covers the information field. Bits after the last
 -- word are fill and must be zero.
 pub record Meets (block : List ℕ) : Type 0 where
@@ -71,7 +70,6 @@ pub record Rewrites : Type 0 where
 
 -- ---- 3. Take an accepted block with three equal header copies, and keep the room. Alter at most two copies, and the field with its check
 -- word besides, each by a change of some kind.
-
 -- one was sent and other is received: bytes 0-29, 30-59, 60-89 are as they were or changed, and one of them is as it was
 pub record Received (Change : List ℕ → List ℕ → Type 0) (one other : List ℕ) : Type 0 where
   pub bytes : Below 256 one

@@ -37,7 +37,6 @@ pub record Located : Type 0 where
       → joinedTo h ws r ≡ take (a .words) ws
 
 -- ---- placement
-
 -- the records of a block, in order; the scope's 4/1, channel 4 and detector 1, is `4 det 1`
 infix 70 _det_
 abbrev pub _det_ : ℕ → ℕ → ℕ × ℕ

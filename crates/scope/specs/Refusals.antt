@@ -57,7 +57,6 @@ fieldReasons says block lent =
     ∷ []
 
 -- ---- the order of the tests
-
 -- The reader tests 1 to 8 in order, then 17, 9, 10, 11.
 abbrev pub readerReasons : List ℕ → ℕ → List Reason
 readerReasons block lent = copiesReasons block ++ (headerReasons (Said block) ++ fieldReasons (Said block) block lent)
@@ -92,7 +91,6 @@ pub record Numbers : Type 0 where
   pub by : (h block : List ℕ) (lent : ℕ) → Below 256 block → FirstOf (planReasons h ++ fieldReasons (λ P. P h) block lent) (judgedBy h block lent .number)
 
 -- ---- what a refusal holds: its number, and zeros; and it leaves every lent byte and word unchanged
-
 pub record Refusals : Type 0 where
   pub reader : (block : List ℕ) (lent : ℕ) → (answerOf block lent .number ≡ 0 → ⊥)
       → answerOf block lent ≡ record { number = answerOf block lent .number; header = replicate 28 0; first = false; second = false; third = false; words = 0 }
