@@ -9,7 +9,9 @@ use native.Mathlib.Omega.{arith}
 use lib.Dec.{ltb, lit<}
 use lib.ListN.{length, take, drop, getD}
 use borrow.Author.Tests.{ltb-true, ltb-false}
+use Rattle.ground.proofs.LawsGrounds.{accepts}
 use Rattle.bits.specs.Bits.{Below, words, sent}
+use Rattle.bits.specs.Fields.{wordsOf}
 use Rattle.bits.specs.Runs.{Altered}
 use Rattle.bits.proofs.LawsWords.{length-spell}
 use Rattle.check_rule.specs.Check.{generator}
@@ -19,12 +21,15 @@ use Rattle.row.proofs.LawsField.{bits-whole}
 use Rattle.copies.specs.Copies.{copyAt}
 use Rattle.copies.specs.Agreed.{ThreeEqual}
 use Rattle.header.specs.Asks.{Asks}
+use Rattle.header.proofs.LawsAsks.{asked-words}
 use Rattle.copies.proofs.LawsAgreed.{each}
 use Rattle.block.specs.Layout.{informationField}
-use Rattle.block.specs.Answers.{answerOf}
+use Rattle.block.specs.declared.Judged.{Judged}
+use Rattle.block.specs.Grounds.{refusalBy}
+use Rattle.block.specs.Answers.{acceptedJudged, refusedJudged, judgedBy, wordsLaid, roomBy, answerOf}
 use Rattle.block.specs.Meets as reader
 use Rattle.block.specs.Promises as promises
-use Rattle.block.proofs.LawsReader.{field-long}
+use Rattle.block.proofs.LawsReader.{field-long, judged-number}
 use Rattle.block.proofs.KeepsReader.{accepts-exactly, answers-truly, gives-words}
 use Rattle.block.proofs.KeepsAltered.{bears-found, finds-altered}
 use Rattle.writer.specs.Answers.{writtenBlock}
@@ -35,7 +40,7 @@ use Rattle.scope.specs.Blocks.{Agrees, Asked}
 use Rattle.scope.specs.Refusals.{readerReasons}
 use Rattle.scope.specs.Demands.{Accepted, Answered, Meets, Reads, Equal, Rewrites, Received, Finds, Altering}
 use Rattle.scope.proofs.LawsReasons.{given-once}
-use Rattle.scope.proofs.LawsFormat.{agrees-passes, passes-agrees, agreed-header, header-agreed, bits-field, asked-asks, asks-asked}
+use Rattle.scope.proofs.LawsFormat.{agrees-passes, passes-agrees, agreed-header, header-agreed, bits-field, asked-asks, asked-field, asks-asked}
 use Rattle.scope.proofs.LawsGrounds.{bit-in-front}
 use Rattle.scope.proofs.KeepsRefusals.{numbers}
 
@@ -123,6 +128,18 @@ module _ (block : List ℕ) (lent : ℕ) (bytes : Below 256 block) where
   marked : {t : Bool} {s : List ℕ} → (t ≡ true) ↔ Passes generator s → (t ≡ true) ↔ Agrees s
   marked e = (λ y. passes-agrees (e .0 y), λ a. e .1 (agrees-passes a))
 
+-- read by a given header, what it asks for is given
+read-by : (h block room : List ℕ) (a : Asked h) → judgedBy h block (length room) .number ≡ 0 → (judgedBy h block (length room) .words ≡ a .words)
+    × (roomBy h block room ≡ words (a .size) (a .words) (sent (take (a .bits / 8) (drop 90 block))) ++ drop (a .words) room)
+unfolding judgedBy roomBy wordsOf
+read-by h block room a e =
+    let z : refusalBy h block (length room) ≡ 0 = sym (judged-number h block (length room)) ∙ e in
+    let C = asked-words (asked-asks a) in (
+      ap (λ (r : Judged). r .words) (sym (accepts (acceptedJudged h) refusedJudged z)) ∙ C,
+      sym (accepts (wordsLaid h block room) (λ (_ : ℕ). room) z)
+          ∙ (λ i. words (a .sized i) (C i) (sent (take (sym (asked-field a) i) (drop 90 block))) ++ drop (C i) room),
+    )
+
 pub reads : Reads
 unfolding meets-block block-meets asks-asked
 reads =
@@ -134,6 +151,7 @@ reads =
       first = λ block lent b e. marked block lent b (answers-truly .first block lent b e);
       second = λ block lent b e. marked block lent b (answers-truly .second block lent b e);
       third = λ block lent b e. marked block lent b (answers-truly .third block lent b e);
+      by = read-by;
       words =
           λ block room b e m.
           gives-words .cut block room b (meets-block m) (enough block (length room) b e (meets-block m))

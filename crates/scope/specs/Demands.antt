@@ -7,7 +7,7 @@ use mathlib.Core.List.{List, _++_}
 use lib.ListN.{length, take, drop}
 use Rattle.bits.specs.Bits.{Below, words, sent}
 use Rattle.bits.specs.Runs.{Altered}
-use Rattle.block.specs.Answers.{answerOf, roomAfter}
+use Rattle.block.specs.Answers.{judgedBy, roomBy, answerOf, roomAfter}
 use Rattle.writer.specs.Answers.{writtenOf, roomWritten}
 use Rattle.scope.specs.Notions.{FirstOf, bit}
 use Rattle.scope.specs.Blocks.{Agrees, Header, Asked}
@@ -42,6 +42,9 @@ pub record Reads : Type 0 where
   pub first : (block : List ℕ) (lent : ℕ) → Below 256 block → Accepted block lent → (answerOf block lent .first ≡ true) ↔ Agrees (take 30 block)
   pub second : (block : List ℕ) (lent : ℕ) → Below 256 block → Accepted block lent → (answerOf block lent .second ≡ true) ↔ Agrees (take 30 (drop 30 block))
   pub third : (block : List ℕ) (lent : ℕ) → Below 256 block → Accepted block lent → (answerOf block lent .third ≡ true) ↔ Agrees (take 30 (drop 60 block))
+  -- A block that is read by a given header gives the words that this asks for.
+  pub by : (h block room : List ℕ) (a : Asked h) → judgedBy h block (length room) .number ≡ 0 → (judgedBy h block (length room) .words ≡ a .words)
+      × (roomBy h block room ≡ words (a .size) (a .words) (sent (take (a .bits / 8) (drop 90 block))) ++ drop (a .words) room)
   pub words : (block room : List ℕ) → Below 256 block → Accepted block (length room) → (m : Meets block)
       → roomAfter block room ≡ words (m .asked .size) (m .asked .words) (sent (take (m .asked .bits / 8) (drop 90 block))) ++ drop (m .asked .words) room
 
