@@ -8,7 +8,7 @@ use Rattle.row.specs.Rows.{recordsIn}
 use Rattle.row.specs.Field.{fieldBytes}
 use Rattle.copies.specs.Copies.{headerLength}
 use Rattle.header.specs.declared.Plan.{Plan}
-use Rattle.header.specs.Says.{blockIn, sizeIn, wordsIn, versionIn, validAt}
+use Rattle.header.specs.Says.{blockIn, sizeIn, wordsIn, versionIn}
 use Rattle.header.specs.Plans.{planOf, refusedPlan}
 use Rattle.header.specs.Asks.{Asks}
 
@@ -28,4 +28,4 @@ WordsInPlace = planOf (3 ∷ 10 ∷ 0 ∷ 22 ∷ 0 ∷ 0 ∷ 0 ∷ 2 ∷ replica
 
 -- data marked not valid is read like any other: what word 9 holds changes no plan
 abbrev pub MarkUnread : Type 0
-MarkUnread = (h : List ℕ) (mark : ℕ) → planOf (set h (validAt - 1) mark) ≡ planOf h
+MarkUnread = (h : List ℕ) (mark : ℕ) → planOf (set h (9 - 1) mark) ≡ planOf h

@@ -41,10 +41,7 @@ wordsIn header = countIn header - extraWords
 abbrev pub versionIn : List ℕ → ℕ
 versionIn header = word 8 header
 
--- word 9, whether data is marked valid, and words 17 to 24, the SPS time: a time tag. No plan goes by them
-abbrev pub validAt : ℕ
-validAt = 9
-
+-- words 17 to 24, the SPS time: a time tag. No plan goes by them, nor by word 9, whether data is marked valid
 abbrev pub timeIn : List ℕ → List ℕ
 timeIn header = take 8 (drop (17 - 1) header)
 

@@ -4,8 +4,8 @@ use Prim.Native.Nat.{ℕ, _+_, _-_, _/_, _≤_}
 use mathlib.Core.Path.{_≡_, sym, ap, _∙_}
 use mathlib.Core.List.{List}
 use native.Mathlib.Omega.{arith}
-use lib.ListN.{getD, drop}
-use lib.Seq.{getD-take, getD-drop}
+use lib.ListN.{getD, drop, length-drop}
+use lib.Seq.{length-take-le, getD-take, getD-drop}
 use Rattle.check_rule.proofs.Table as table
 use Rattle.row.specs.Field.{fieldBytes}
 use Rattle.header.specs.Says.{timeIn}
@@ -28,4 +28,4 @@ time-at h k l m =
     getD-take 8 (drop 16 h) (k - 1) 0 (omega arith) ∙ getD-drop 16 h (k - 1) 0 ∙ ap (λ (i : ℕ). getD h i 0) e
 
 pub unread : Unread
-unread = record { answer = mark-unread .answer; left = mark-unread .left; marked = reads-marked-alike; time = time-at }
+unread = record { answer = mark-unread .answer; left = mark-unread .left; marked = reads-marked-alike; eight = λ h l. length-take-le 8 (drop 16 h) (omega (arith, length-drop 16 h)); time = time-at }

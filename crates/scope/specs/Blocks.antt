@@ -66,4 +66,5 @@ pub record Unread : Type 0 where
   -- and blocks sent alike but for it are read alike.
   pub marked : ReadsMarkedAlike
   -- Words 17-24 SPS time.
+  pub eight : (h : List ℕ) → length h ≡ 28 → length (timeIn h) ≡ 8
   pub time : (h : List ℕ) (k : ℕ) → 1 ≤ k → k ≤ 8 → word k (timeIn h) ≡ word (16 + k) h
