@@ -194,13 +194,6 @@ tells-bad s = record {
       bad (tagOf s) (says-it s (good-is-tag s g)) (bounds (tagOf s) .0 (good-bounds s g));
 }
 
-pub is-tag-unless-bad : (s : List ℕ) → (Bad s → ⊥) → IsTag s
-is-tag-unless-bad s n = by (goodTag s) refl (tells-bad s)
-  where
-    by : (t : Bool) → goodTag s ≡ t → Tells (not t) (Bad s) → IsTag s
-    by true e k = good-is-tag s e
-    by false e k = absurd (n (k .yes refl))
-
 taken : (s : List ℕ) → readTag s .number ≡ 0 → Says s (readTag s .tag)
 taken s h =
     let i : IsTag s = Kept.reading .only s h in
