@@ -18,7 +18,6 @@ use Rattle.time.specs.Times.{between}
 use Rattle.tag.specs.declared.Tag.{Tag}
 use Rattle.watch.specs.Verdicts.{kindOf}
 use Rattle.watch.specs.Bounds.{grounds, refusalOf}
-use Rattle.watch.specs.Offers.{after}
 use Rattle.watch.specs.Promises.{Sound, given, kind, Open, InTime}
 use Rattle.watch.specs.declared.Watch.{Watch}
 use Rattle.watch.specs.declared.Stepped.{Stepped}

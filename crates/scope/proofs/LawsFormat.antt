@@ -6,7 +6,7 @@ use mathlib.Core.Bool.{Bool, true, false, _||_}
 use mathlib.Core.List.{List}
 use native.Mathlib.Omega.{arith}
 use lib.Dec.{lit<, eqb}
-use lib.ListN.{length, take}
+use lib.ListN.{take}
 use borrow.Author.Tests.{ne-eqb, eqb-true, eqb-false}
 use Rattle.ground.proofs.LawsChoice.{no}
 use Rattle.check_rule.specs.Check.{generator}

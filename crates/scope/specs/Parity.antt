@@ -1,7 +1,7 @@
 -- Parity sections. Assumes nothing.
 use Prim.Native.Nat.{ℕ, _<_}
 use mathlib.Core.Path.{_≡_}
-use mathlib.Core.Bool.{true, false}
+use mathlib.Core.Bool.{false}
 use mathlib.Core.List.{List, [], _∷_}
 use lib.Bits.{bitXor}
 use lib.ListN.{length, getD}
@@ -10,7 +10,7 @@ use Rattle.parity.specs.Words.{groundOf}
 use Rattle.parity.specs.Promises.{Judged, Covered}
 use Rattle.parity.specs.declared.Layout.{Layout}
 use Rattle.parity.specs.declared.Layout.the-variants.{ImagerSpacelook, SounderSpacelook}
-use Rattle.scope.specs.Notions.{Reason, _if_, FirstOf, word}
+use Rattle.scope.specs.Notions.{Reason, _if_, FirstOf}
 
 -- A section's parity is the XOR of its words.
 pub record Xor : Type 0 where

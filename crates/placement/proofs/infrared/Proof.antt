@@ -5,8 +5,7 @@ use mathlib.Core.Path.{sym, _∙_}
 use Prim.Native.Nat.{_≤_}
 use native.Mathlib.Omega.{arith}
 use borrow.Author.Needs.{needs}
-use Rattle.placement.specs.Placement.{heldIn, recordsHeld, placeOf}
-use Rattle.placement.specs.Table.{groupOf, namedBy}
+use Rattle.placement.specs.Placement.{heldIn, recordsHeld}
 use Rattle.placement.proofs.LawsPlacement.{absent}
 use Rattle.placement.proofs.LawsRecords.{at-most-four}
 use Rattle.placement.proofs.Rows.{infrared-rule}

@@ -3,8 +3,7 @@
 use mathlib.Core.Path.{_≡_, sym, ap, _∙_}
 use native.Mathlib.Omega.{arith}
 use borrow.Author.Needs.{needs}
-use Rattle.placement.specs.Placement.{heldIn, recordsHeld, placeOf}
-use Rattle.placement.specs.Table.{namedBy}
+use Rattle.placement.specs.Placement.{recordsHeld, placeOf}
 use Rattle.placement.proofs.LawsPlacement.{absent}
 use Rattle.placement.proofs.LawsRecords.{one-record}
 use Rattle.placement.proofs.Rows.{visible-rule}
