@@ -1,8 +1,8 @@
--- Bytes laid one after the other are laid joined; one element stored is one element laid; a block of room is filled piece by piece.
+-- Bytes laid one after the other are laid joined; one element stored is one element laid.
 -- Assumes nothing.
 use mathlib.Core.Path.{_≡_, refl, sym, ap, ap₂, _∙_, subst}
 use mathlib.Core.List.{List, [], _∷_, _++_, append-nil, append-assoc}
-use Prim.Native.Nat.{ℕ, suc, _+_, _-_, _≤_, _<_}
+use Prim.Native.Nat.{ℕ, suc, _+_, _≤_, _<_}
 use native.Mathlib.Nat.{add-zero}
 use native.Mathlib.Omega.{arith}
 use lib.ListN.{length, getD, take, drop, set, length-append, length-drop, take-append-drop, drop-of-length-le}
@@ -46,29 +46,6 @@ laid-set r w a h =
 
 pub laid-snoc : (r : List ℕ) (w : ℕ) (xs : List ℕ) (a : ℕ) → w + length xs < length r → set (laid r w xs) (w + length xs) a ≡ laid r w (xs ++ (a ∷ []))
 laid-snoc r w xs a h = laid-set (laid r w xs) (w + length xs) a (omega (arith, length-laid r w xs (omega arith))) ∙ laid-more r w xs (a ∷ []) (omega arith)
-
--- what is still to be written: `all` is what stands before `w`, and `rest`; behind `w` the room is as it was
-pub record Written (all room₀ room : List ℕ) (w : ℕ) (rest : List ℕ) : Type 0 where
-  pub says : all ≡ take w room ++ rest
-  pub keeps : drop w room ≡ drop w room₀
-  pub long : length room ≡ length room₀
-  pub within : w ≤ length room
-
-pub start : (all room : List ℕ) → Written all room room 0 all
-start all room = record { says = refl; keeps = refl; long = refl; within = omega arith }
-
-pub write : {all room₀ room : List ℕ} {w : ℕ} {rest : List ℕ} (xs : List ℕ) → Written all room₀ room w (xs ++ rest) → w + length xs ≤ length room → Written all room₀ (laid room w xs) (w + length xs) rest
-write {all} {room₀} {room} {w} {rest} xs s h = record {
-  says = s .says ∙ sym (append-assoc (take w room) xs rest) ∙ ap (λ (l : List ℕ). l ++ rest) (sym (take-laid room w xs (s .within)));
-  keeps = drop-laid room w xs (s .within) ∙ sym (drop-drop (length xs) w room) ∙ ap (drop (length xs)) (s .keeps) ∙ drop-drop (length xs) w room₀;
-  long = length-laid room w xs h ∙ s .long;
-  within = omega (arith, length-laid room w xs h);
-}
-
-pub finish : {all room₀ room : List ℕ} {w : ℕ} → Written all room₀ room w [] → (length all ≡ w) × (room ≡ all ++ drop w room₀)
-finish {all} {room₀} {room} {w} s =
-    let e : all ≡ take w room = s .says ∙ append-nil (take w room) in
-    (ap length e ∙ length-take-le w room (s .within), sym (take-append-drop w room) ∙ ap₂ (λ (p q : List ℕ). p ++ q) (sym e) (s .keeps))
 
 -- a turn of the loop that lays
 pub lay-turn : (src r : List ℕ) (at i : ℕ) → i < length src → at + i < length r
