@@ -1,7 +1,7 @@
 -- An information field of bytes as words of `size` bits: its words, the fill behind the last one, the field that holds given words;
 -- what taking words out and putting words in answer, and what they leave in the room lent.
 -- Assumes nothing.
-use Prim.Native.Nat.{ℕ, _+_, _-_, _*_, _^_}
+use Prim.Native.Nat.{ℕ, _-_, _*_, _^_}
 use mathlib.Core.Bool.{Bool, true, not, _&&_, _||_}
 use mathlib.Core.List.{List, [], _∷_, _++_}
 use lib.Dec.{eqb, leb, ltb}

@@ -2,7 +2,7 @@
 -- equal registers were equal before equal bits; and 16 bits or fewer, from one register, lead to different registers where they differ.
 -- Assumes nothing.
 use mathlib.Core.Path.{_≡_, refl, sym, ap, ap₂, _∙_, subst}
-use mathlib.Core.Logic.{_⊎_, inl, inr, ⊎-elim}
+use mathlib.Core.Logic.{inl, inr, ⊎-elim}
 use mathlib.Core.List.{List, [], _∷_, _++_, append-nil}
 use Prim.Native.Nat.{ℕ, _+_, _-_, _*_, _/_, _%_, _^_, _<_, _≤_, min}
 use native.Mathlib.Nat.{div-add-mod', mul-assoc, mul-mod-left, div-one, add-comm, mod-lt}

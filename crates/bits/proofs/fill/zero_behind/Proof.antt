@@ -1,6 +1,6 @@
 -- `bits::fill::zero_behind` meets its contract: the fill begins at a byte's first bit, or inside a byte.
 -- Assumes nothing.
-use Prim.Native.Nat.{_+_, _-_, _*_, _/_, _%_, _≤_}
+use Prim.Native.Nat.{_+_, _*_, _/_, _%_, _≤_}
 use mathlib.Core.Path.{_≡_, sym, ap, _∙_}
 use native.Mathlib.Omega.{arith}
 use borrow.Author.Needs.{needs}
