@@ -24,20 +24,20 @@ fn write_text(room: &[u8], end: usize) {
 }
 
 fn write_first() {
-    let mut text = [0u8; recording::text::LINE_BYTES];
-    let end = recording::text::put_first(&mut text);
+    let mut text = [0u8; listing::LINE_BYTES];
+    let end = listing::put_first(&mut text);
     write_text(&text, end);
 }
 
 fn write_line(line: Line) {
-    let mut text = [0u8; recording::text::LINE_BYTES];
-    let end = recording::text::put_line(line, &mut text);
+    let mut text = [0u8; listing::LINE_BYTES];
+    let end = listing::put_line(line, &mut text);
     write_text(&text, end);
 }
 
 fn write_last(cut: bool, fields: u64) {
-    let mut text = [0u8; recording::text::LINE_BYTES];
-    let end = recording::text::put_last(cut, fields, &mut text);
+    let mut text = [0u8; listing::LINE_BYTES];
+    let end = listing::put_last(cut, fields, &mut text);
     write_text(&text, end);
 }
 

@@ -1,8 +1,5 @@
 pub mod KeepsFields
-pub mod KeepsListing
-pub mod KeepsProgram
+pub mod KeepsLines
 pub mod KeepsPromises
-pub mod LawsDecimal
 pub mod LawsFound
 pub mod LawsLines
-pub mod LawsTexts

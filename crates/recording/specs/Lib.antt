@@ -1,5 +1,4 @@
 pub mod Found
 pub mod Fields
 pub mod Lines
-pub mod Texts
 pub mod Promises

@@ -1,12 +1,10 @@
 // A recording: tagged fields, one after the other (specs/Fields.antt); what stands in it from a byte on, and the line that the listing
-// has for a field, as numbers and as text.
+// has for a field, as numbers.
 ghost use mathlib.Core.Path.{_≡_};
 ghost use lib.ListN.{length};
 ghost use Rattle.recording.specs.Fields.{frontOf};
 ghost use Rattle.recording.specs.Found.{lengthAt, foundAt};
 ghost use Rattle.recording.specs.Lines.{seqAfter, refusedLine, lineOf, roomListed};
-
-pub mod text;
 
 // A tag and a length of two bytes stand in front of a body.
 pub const FRONT: usize = 3;

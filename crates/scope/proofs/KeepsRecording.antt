@@ -6,7 +6,8 @@ use borrow.Author.Tests.{lt-ltb}
 use Rattle.ground.proofs.LawsChoice.{yes}
 use Rattle.recording.specs.declared.Line.{Line}
 use Rattle.recording.specs.Lines.{mostFields, seqAfter}
-use Rattle.recording.proofs.KeepsListing.{gives-fields, block-line, refused-line, other-line, prints-dashes, prints-empty, prints-example, prints-cut}
+use Rattle.recording.proofs.KeepsLines.{gives-fields, block-line, refused-line, other-line}
+use Rattle.listing.proofs.KeepsListing.{prints-dashes, prints-empty, prints-example, prints-cut}
 use Rattle.scope.specs.Recording.{Listing}
 use Rattle.scope.proofs.KeepsDemands.{meets-block, enough}
 

@@ -70,6 +70,8 @@ settled =
         λ _ _ x y. (same (x .allowed) (y .allowed), refl),
         λ _ _ x y. (same (x .allowed) (y .allowed), refl),
         λ _ _ x y. (same (x .allowed .0) (y .allowed .0), λ i. (tt, (tt, (tt, (same (x .allowed .1) (y .allowed .1) i, tt))))),
+      );
+      listing = (
         λ _ _ x y. (same (x .allowed .0) (y .allowed .0), λ i. (same (x .allowed .1) (y .allowed .1) i, tt)),
         λ _ _ x y. (same (x .allowed .0) (y .allowed .0), λ i. (tt, (same (x .allowed .1) (y .allowed .1) i, tt))),
         λ _ _ x y. (same (x .allowed .0) (y .allowed .0), λ i. (tt, (tt, (same (x .allowed .1) (y .allowed .1) i, tt)))),

@@ -1,4 +1,4 @@
--- Recording and listing. What the listing prints is promised by the crate `recording` in the scope's own text, and cited. Assumes nothing.
+-- Recording and listing. What the listing prints is promised by the crate `listing` in the scope's own text, and cited. Assumes nothing.
 use Prim.Native.Nat.{ℕ, _+_, _/_, _%_, _<_}
 use mathlib.Core.Path.{_≡_}
 use mathlib.Core.List.{List, _∷_}
@@ -8,7 +8,8 @@ use Rattle.block.specs.Answers.{answerOf}
 use Rattle.recording.specs.declared.Line.{Line}
 use Rattle.recording.specs.Fields.{Field, written}
 use Rattle.recording.specs.Lines.{lineOf}
-use Rattle.recording.specs.Promises.{GivesFields, PrintsExample, PrintsEmpty, PrintsCut, PrintsDashes}
+use Rattle.recording.specs.Promises.{GivesFields}
+use Rattle.listing.specs.Promises.{PrintsExample, PrintsEmpty, PrintsCut, PrintsDashes}
 use Rattle.scope.specs.Demands.{Accepted, Meets}
 
 -- the line of the field behind `before` others, numbered from 1; no recording has 2^64 of them

@@ -41,9 +41,9 @@ use Rattle.recording.proofs.front_of
 use Rattle.recording.proofs.body_length
 use Rattle.recording.proofs.next_field
 use Rattle.recording.proofs.line_of
-use Rattle.recording.proofs.text.put_first
-use Rattle.recording.proofs.text.put_line
-use Rattle.recording.proofs.text.put_last
+use Rattle.listing.proofs.put_first
+use Rattle.listing.proofs.put_line
+use Rattle.listing.proofs.put_last
 use Rattle.c_numbers.proofs.in_byte
 use Rattle.c_numbers.proofs.in_pair
 use Rattle.c_numbers.proofs.is_on
@@ -91,8 +91,9 @@ pub record AllSettled : Type 0 where
   pub time : Settled between.ended between.Reads.Learnt × Settled elapsed.ended elapsed.Reads.Learnt
   pub watch : Settled begin.ended begin.Reads.Learnt × Settled step.ended step.Reads.Learnt × Settled offer.ended offered
   pub recording : Settled front_of.ended front_of.Reads.Learnt × Settled body_length.ended body_length.Reads.Learnt
-      × Settled next_field.ended next_field.Reads.Learnt × Settled line_of.ended line_of.Reads.Learnt × Settled put_first.ended put_first.Reads.Learnt
-      × Settled put_line.ended put_line.Reads.Learnt × Settled put_last.ended put_last.Reads.Learnt
+      × Settled next_field.ended next_field.Reads.Learnt × Settled line_of.ended line_of.Reads.Learnt
+  pub listing : Settled put_first.ended put_first.Reads.Learnt × Settled put_line.ended put_line.Reads.Learnt
+      × Settled put_last.ended put_last.Reads.Learnt
   pub c-numbers : Settled in_byte.ended in_byte.Reads.Learnt × Settled in_pair.ended in_pair.Reads.Learnt × Settled is_on.ended is_on.Reads.Learnt
       × Settled marked.ended marked.Reads.Learnt
   pub c-fields : Settled rahmisve_check_word.ended rahmisve_check_word.Reads.Learnt × Settled rahmisve_take_words.ended rahmisve_take_words.Reads.Learnt

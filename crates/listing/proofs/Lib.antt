@@ -1,0 +1,4 @@
+pub mod KeepsListing
+pub mod KeepsProgram
+pub mod LawsDecimal
+pub mod LawsTexts

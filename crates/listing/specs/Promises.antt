@@ -1,0 +1,65 @@
+-- What the listing prints: the scope's example, an empty recording, a cut one, a refusal; and what a program prints that asks for one field
+-- after the other.
+-- Assumes nothing.
+use Prim.Native.Nat.{ℕ, _+_, _-_, _*_, _<_, _≤_}
+use mathlib.Core.Path.{_≡_}
+use mathlib.Core.Bool.{true, false}
+use mathlib.Core.List.{List, [], _∷_, _++_}
+use lib.ListN.{length, take, drop, getD}
+use Rattle.bits.specs.Bits.{Below}
+use Rattle.block.specs.Answers.{answerOf}
+use Rattle.block.specs.Meets.{Meets}
+use Rattle.recording.specs.Found.{foundAt}
+use Rattle.recording.specs.Fields.{Field, written, joined}
+use Rattle.recording.specs.Lines.{mostFields, seqAfter, lineOf}
+use Rattle.recording.specs.declared.Found.the-variants.{Whole, Cut, End}
+use Rattle.listing.specs.Texts.{bytesOf, decimal, firstText, lineText, lastText, listing}
+
+-- the number that digits spell behind so much of it
+abbrev pub spelled : ℕ → List ℕ → ℕ
+spelled n [] = n
+spelled n (d ∷ ds) = spelled (n * 10 + (d - 0x30)) ds
+
+-- A number's digits spell it, and the first one is no zero but of 0.
+pub record SpellsNumbers : Type 0 where
+  pub says : (n : ℕ) → spelled 0 (decimal n) ≡ n
+  pub leading : (n : ℕ) → 0 < n → 0x31 ≤ getD (decimal n) 0 0
+
+-- The scope's example: an acceptable block 3, version 2, C = 20, then a tag-1 field of 89 bytes.
+abbrev pub PrintsExample : Type 0
+PrintsExample =
+    (block short : List ℕ) (room : ℕ) → Below 256 block → (m : Meets block) → m .number ≡ 3 → m .version ≡ 2 → m .words ≡ 20 → 20 ≤ room → length short ≡ 89
+    → listing (written (record { tag = 1; body = block }) ++ written (record { tag = 1; body = short })) room
+    ≡ bytesOf "seq block version words answer\n1 3 2 20 0\n2 - - - 1\nend 2\n"
+
+-- An empty recording has the first line and `end 0`.
+abbrev pub PrintsEmpty : Type 0
+PrintsEmpty = (room : ℕ) → listing [] room ≡ bytesOf "seq block version words answer\nend 0\n"
+
+-- A recording that stops inside a field ends with `cut k` in place of `end k`, k being the complete fields before it.
+abbrev pub PrintsCut : Type 0
+PrintsCut =
+    (fields : List Field) (f : Field) (k room : ℕ) → 0 < k → k < length (written f)
+    → (lines : List ℕ)
+    × ((listing (joined fields) room ≡ lines ++ (bytesOf "end " ++ (decimal (length fields) ++ bytesOf "\n")))
+    × (listing (joined fields ++ take k (written f)) room ≡ lines ++ (bytesOf "cut " ++ (decimal (length fields) ++ bytesOf "\n"))))
+
+-- A refusal has three dashes and its number, and the line's other numbers are zero; a tag other than 1 is 15.
+pub record PrintsDashes : Type 0 where
+  pub zeros : (before : ℕ) (body : List ℕ) (room : ℕ) → (answerOf body room .number ≡ 0 → ⊥)
+      → lineOf before 1 body room ≡ record { seq = seqAfter before; answer = answerOf body room .number; block = 0; version = 0; words = 0 }
+  pub refused : (before : ℕ) (body : List ℕ) (room : ℕ) → (answerOf body room .number ≡ 0 → ⊥)
+      → lineText (lineOf before 1 body room) ≡ decimal (seqAfter before) ++ (bytesOf " - - - " ++ (decimal (answerOf body room .number) ++ bytesOf "\n"))
+  pub other : (before tag : ℕ) (body : List ℕ) (room : ℕ) → (tag ≡ 1 → ⊥) → lineText (lineOf before tag body room) ≡ decimal (seqAfter before) ++ bytesOf " - - - 15\n"
+
+-- What a program prints behind the first line that asks for one field after the other: as the functions say, from `seen` fields on.
+pub data Prints (room : ℕ) : (seen : ℕ) (bytes text : List ℕ) → Type 0 where
+  line : {seen : ℕ} {bytes text : List ℕ} (tag start n : ℕ) → foundAt bytes 0 ≡ Whole tag start n
+      → Prints room (lineOf seen tag (take n (drop start bytes)) room .seq) (drop (start + n) bytes) text
+      → Prints room seen bytes (lineText (lineOf seen tag (take n (drop start bytes)) room) ++ text)
+  cut : {seen : ℕ} {bytes : List ℕ} → foundAt bytes 0 ≡ Cut → Prints room seen bytes (lastText true seen)
+  end : {seen : ℕ} {bytes : List ℕ} → foundAt bytes 0 ≡ End → Prints room seen bytes (lastText false seen)
+
+-- It is the listing.
+abbrev pub PrintsListing : Type 0
+PrintsListing = (bytes text : List ℕ) (room : ℕ) → length bytes ≤ mostFields → Prints room 0 bytes text → firstText ++ text ≡ listing bytes room
