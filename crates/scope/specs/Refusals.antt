@@ -18,8 +18,7 @@ use Rattle.scope.specs.Notions.{Reason, _if_, FirstOf, word, bit}
 use Rattle.scope.specs.Blocks.{Agrees, Passing, Header, Asked}
 use Rattle.scope.specs.Records.{RecordsIn}
 
--- A reason that a header gives is said of the header, which is lent, or found among a block's copies.
-
+-- A reason that a header gives is said of one that is lent, or of the one that a block's copies have in common.
 -- 4: unknown block id. 5: version above 3. 6: word size not in the block's row: no count has it there. 7: count not in the block's row.
 abbrev pub headerReasons : ((List ℕ → Type 0) → Type 0) → List Reason
 headerReasons says =

@@ -27,9 +27,9 @@ refusals w b s =
     ∷ 12 if Bad s
     ∷ []
 
--- What an accepted offer does, by its kind: 1 a stray, 2 opened, 3 kept; closed 4 as clock back, 5 as late, 6 as
--- broken, 7 as complete. Idle: block 0 opens; another block is a stray. Open, d = elapsed from the last tag: d below 0 closes as clock
--- back; else d above the limit closes as late; else a block other than the expected one closes as broken; else block 10 closes as complete.
+-- What an accepted offer does, by its kind: 1 a stray, 2 opened, 3 kept; closed 4 as clock back, 5 as late, 6 as broken, 7 as complete.
+-- Idle: block 0 opens; another block is a stray. Open, d = elapsed from the last tag: d below 0 closes as clock back; else d above the
+-- limit closes as late; else a block other than the expected one closes as broken; else block 10 closes as complete; else it is kept.
 abbrev pub rules : Watch → ℕ → Tag → List Reason
 rules w b t =
     2 if ((w .opened ≡ false) × (b ≡ 0))

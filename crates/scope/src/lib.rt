@@ -1,2 +1,1 @@
-// Statements over the crates below: the scope's numbered table (specs/Table.antt), and that every contract settles its outcome
-// (specs/Settled.antt). Nothing is called here.
+// The scope as statements over the crates below, a file a section (specs/). Nothing is called here.
