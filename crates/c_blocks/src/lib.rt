@@ -14,12 +14,12 @@ pub extern "C" fn rahmisve_read(
     room: &mut [u16],
     header: &mut [u8; 28],
     copies: &mut [u8; 3],
-    words: &mut usize,
+    word_count: &mut usize,
 ) -> u8
     ensures { λ r. ⌜ r ≡ answerOf (now (block .entry)) (length (now (room .entry))) .number ⌝ }
     ensures { λ r. ⌜ now (header .exit) ≡ answerOf (now (block .entry)) (length (now (room .entry))) .header ⌝ }
     ensures { λ r. ⌜ now (copies .exit) ≡ copiesIn (answerOf (now (block .entry)) (length (now (room .entry)))) ⌝ }
-    ensures { λ r. ⌜ now (words .exit) ≡ answerOf (now (block .entry)) (length (now (room .entry))) .words ⌝ }
+    ensures { λ r. ⌜ now («word_count» .exit) ≡ answerOf (now (block .entry)) (length (now (room .entry))) .words ⌝ }
     ensures { λ r. ⌜ now (room .exit) ≡ read.roomAfter (now (block .entry)) (now (room .entry)) ⌝ }
 {
     let answer = block::read(block, room);
@@ -30,7 +30,7 @@ pub extern "C" fn rahmisve_read(
         marked(answer.second),
         marked(answer.third),
     ];
-    *words = answer.words;
+    *word_count = answer.words;
     answer.number
 }
 
@@ -41,18 +41,18 @@ pub extern "C" fn rahmisve_plan(
     version: &mut u8,
     size: &mut u8,
     records: &mut u8,
-    words: &mut usize,
-    field: &mut usize,
+    word_count: &mut usize,
+    field_bytes: &mut usize,
 ) -> u8
-    ensures { λ r. ⌜ record { number = r; block = now (block .exit); version = now (version .exit); size = now (size .exit); records = now (records .exit); words = now (words .exit); bytes = now (field .exit) } ≡ planOf (now (header .entry)) ⌝ }
+    ensures { λ r. ⌜ record { number = r; block = now (block .exit); version = now (version .exit); size = now (size .exit); records = now (records .exit); words = now («word_count» .exit); bytes = now («field_bytes» .exit) } ≡ planOf (now (header .entry)) ⌝ }
 {
     let plan = header::plan_of(header);
     *block = plan.block;
     *version = plan.version;
     *size = plan.size;
     *records = plan.records;
-    *words = plan.words;
-    *field = plan.bytes;
+    *word_count = plan.words;
+    *field_bytes = plan.bytes;
     plan.number
 }
 

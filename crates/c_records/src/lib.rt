@@ -8,14 +8,14 @@ use c_numbers::in_byte;
 #[no_mangle]
 pub extern "C" fn rahmisve_record(
     header: &[u8],
-    words: usize,
+    word_count: usize,
     record: u32,
     start: &mut usize,
     length: &mut usize,
 ) -> u8
-    ensures { λ r. ⌜ record { number = r; start = now (start .exit); length = now (length .exit) } ≡ partOf (now (header .entry)) (upTo 255 «record») words ⌝ }
+    ensures { λ r. ⌜ record { number = r; start = now (start .exit); length = now (length .exit) } ≡ partOf (now (header .entry)) (upTo 255 «record») «word_count» ⌝ }
 {
-    let part = records::locate(header, words, in_byte(record));
+    let part = records::locate(header, word_count, in_byte(record));
     *start = part.start;
     *length = part.length;
     part.number
