@@ -9,9 +9,7 @@ use c_numbers::is_on;
 use c_numbers::marked;
 use c_tags::numbers_of;
 use c_tags::tag_of;
-use watch::Begun;
 use watch::Closing;
-use watch::Stepped;
 use watch::Verdict;
 use watch::Watch;
 
@@ -111,37 +109,18 @@ fn leaves(verdict: Verdict) -> bool
     }
 }
 
-// What the record holds after an offer to it.
-fn row_after(stepped: Stepped, row: [u32; 10]) -> [u32; 10]
-    ensures { λ r. ⌜ r ≡ rowAfter stepped row ⌝ }
-{
-    let did = stepped.verdict;
-    if leaves(did) {
-        return row;
-    }
-    let next = stepped.next;
-    row_of(next)
-}
-
-// What the record holds after a beginning in it.
-fn row_begun(begun: Begun, row: [u32; 10]) -> [u32; 10]
-    ensures { λ r. ⌜ r ≡ rowBegun begun row ⌝ }
-{
-    if begun.number != ground::ACCEPTED {
-        return row;
-    }
-    let fresh = begun.watch;
-    row_of(fresh)
-}
-
+// The watch is stored into by a call that changes it, and by no other: a host may keep it where a refusal or a stray must not write.
 #[no_mangle]
 pub extern "C" fn rahmisve_watch_begin(limit: u32, watch: &mut [u32; 10]) -> u8
     ensures { λ r. ⌜ r ≡ beginOf limit .number ⌝ }
     ensures { λ r. ⌜ now (watch .exit) ≡ rowBegun (beginOf limit) (now (watch .entry)) ⌝ }
 {
-    let row = *watch;
     let begun = watch::begin(limit);
-    *watch = row_begun(begun, row);
+    if begun.number != ground::ACCEPTED {
+        return begun.number;
+    }
+    let fresh = begun.watch;
+    *watch = row_of(fresh);
     begun.number
 }
 
@@ -159,7 +138,12 @@ pub extern "C" fn rahmisve_watch_offer(
     let row = *watch;
     let stepped = watch::step(watch_in(row), in_byte(block), tag);
     let did = stepped.verdict;
-    *watch = row_after(stepped, row);
+    let number = number_of(did);
     *verdict = code_of(did);
-    number_of(did)
+    if leaves(did) {
+        return number;
+    }
+    let next = stepped.next;
+    *watch = row_of(next);
+    number
 }
