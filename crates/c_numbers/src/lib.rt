@@ -1,11 +1,13 @@
 // Numbers and marks between C's types and the library's, for the parts of the C interface: the crates c_.., whose manual is
 // include/rahmisve.h. Numbers and slices go in, numbers come out. Each of their functions answers what the library's own does, on every
-// input. The number of the answer is returned; what else belongs to it goes to places that the caller lends for it.
+// input. The number of the answer is returned; what else belongs to it goes to places that the caller lends for it. The version of that
+// interface is here too.
 ghost use mathlib.Core.Path.{_≡_};
 ghost use mathlib.Core.Bool.{not};
 ghost use lib.Dec.{eqb};
 ghost use Rattle.c_numbers.specs.Numbers.{upTo};
 ghost use Rattle.c_numbers.specs.Marks.{mark};
+ghost use Rattle.c_numbers.specs.Version.{version};
 
 const LARGEST_BYTE: u32 = 255;
 
@@ -43,4 +45,14 @@ pub fn marked(holds: bool) -> u8
     ensures { λ r. ⌜ r ≡ mark holds ⌝ }
 {
     if holds { 1 } else { 0 }
+}
+
+const VERSION: u32 = 1;
+
+// The version of the C interface, by which a program knows that its header is of the same.
+#[no_mangle]
+pub extern "C" fn rahmisve_version() -> u32
+    ensures { λ r. ⌜ r ≡ version ⌝ }
+{
+    VERSION
 }

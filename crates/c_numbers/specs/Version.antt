@@ -1,0 +1,6 @@
+-- The version of the C interface. Each change of a signature, a size or a place in include/rahmisve.h raises it, there and here.
+-- Assumes nothing.
+use Prim.Native.Nat.{ℕ}
+
+abbrev pub version : ℕ
+version = 1
