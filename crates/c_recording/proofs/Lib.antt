@@ -1,1 +1,2 @@
+pub mod KeepsTold
 pub mod LawsTold

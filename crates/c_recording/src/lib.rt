@@ -88,9 +88,9 @@ pub extern "C" fn rahmisve_first_text(room: &mut [u8], bytes: &mut usize) -> u8
     ensures { λ r. ⌜ now (bytes .exit) ≡ putLength (now (room .entry)) firstText ⌝ }
     ensures { λ r. ⌜ now (room .exit) ≡ laidInside (now (room .entry)) 0 firstText ⌝ }
 {
-    let put = listing::put_first(room);
-    *bytes = put;
-    number_of(put)
+    let first = listing::put_first(room);
+    *bytes = first;
+    number_of(first)
 }
 
 #[no_mangle]
@@ -130,7 +130,7 @@ pub extern "C" fn rahmisve_last_text(
     ensures { λ r. ⌜ now (bytes .exit) ≡ putLength (now (room .entry)) (lastText (not (eqb cut 0)) fields) ⌝ }
     ensures { λ r. ⌜ now (room .exit) ≡ laidInside (now (room .entry)) 0 (lastText (not (eqb cut 0)) fields) ⌝ }
 {
-    let put = listing::put_last(is_on(cut), fields, room);
-    *bytes = put;
-    number_of(put)
+    let last = listing::put_last(is_on(cut), fields, room);
+    *bytes = last;
+    number_of(last)
 }
