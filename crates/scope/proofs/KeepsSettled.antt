@@ -81,6 +81,7 @@ settled =
         λ _ _ x y. (same (x .allowed) (y .allowed), refl),
         λ _ _ x y. (same (x .allowed) (y .allowed), refl),
         λ _ _ x y. (same (x .allowed) (y .allowed), refl),
+        λ _ _ x y. (same (x .allowed) (y .allowed), refl),
       );
       c-fields = (
         λ _ _ x y. (same (x .allowed) (y .allowed), refl),
@@ -110,5 +111,12 @@ settled =
       c-watch = (
         λ _ _ x y. (same (x .allowed .0) (y .allowed .0), λ i. (tt, (same (x .allowed .1) (y .allowed .1) i, tt))),
         λ _ _ x y. let p = x .allowed in let q = y .allowed in (same (p .0) (q .0), λ i. (same (p .1 .1) (q .1 .1) i, (tt, (tt, (same (p .1 .0) (q .1 .0) i, tt))))),
+      );
+      c-recording = (
+        λ _ _ x y. let p = x .allowed in let q = y .allowed in (same (p .0) (q .0), λ i. (tt, (tt, (same (p .1 .0) (q .1 .0) i, (same (p .1 .1 .0) (q .1 .1 .0) i, (same (p .1 .1 .1) (q .1 .1 .1) i, tt)))))),
+        λ _ _ x y. let e = same (x .allowed .0) (y .allowed .0) in (λ i. e i .answer, λ i. (tt, (tt, (tt, (same (x .allowed .1) (y .allowed .1) i, (e i .seq, (e i .block, (e i .version, (e i .words, tt))))))))),
+        λ _ _ x y. let p = x .allowed in let q = y .allowed in (same (p .0) (q .0), λ i. (same (p .1 .1) (q .1 .1) i, (same (p .1 .0) (q .1 .0) i, tt))),
+        λ _ _ x y. let p = x .allowed in let q = y .allowed in (same (p .0) (q .0), λ i. (tt, (tt, (tt, (tt, (tt, (same (p .1 .1) (q .1 .1) i, (same (p .1 .0) (q .1 .0) i, tt)))))))),
+        λ _ _ x y. let p = x .allowed in let q = y .allowed in (same (p .0) (q .0), λ i. (tt, (tt, (same (p .1 .1) (q .1 .1) i, (same (p .1 .0) (q .1 .0) i, tt))))),
       );
     }

@@ -48,6 +48,7 @@ use Rattle.c_numbers.proofs.in_byte
 use Rattle.c_numbers.proofs.in_pair
 use Rattle.c_numbers.proofs.is_on
 use Rattle.c_numbers.proofs.marked
+use Rattle.c_numbers.proofs.rahmisve_version
 use Rattle.c_fields.proofs.rahmisve_check_word
 use Rattle.c_fields.proofs.rahmisve_take_words
 use Rattle.c_fields.proofs.rahmisve_put_words
@@ -65,6 +66,11 @@ use Rattle.c_tags.proofs.rahmisve_write_tag
 use Rattle.c_tags.proofs.rahmisve_elapsed
 use Rattle.c_watch.proofs.rahmisve_watch_begin
 use Rattle.c_watch.proofs.rahmisve_watch_offer
+use Rattle.c_recording.proofs.rahmisve_next_field
+use Rattle.c_recording.proofs.rahmisve_line
+use Rattle.c_recording.proofs.rahmisve_first_text
+use Rattle.c_recording.proofs.rahmisve_line_text
+use Rattle.c_recording.proofs.rahmisve_last_text
 use Rattle.scope.specs.Outcomes.{Settled, SettledUpTo, offered}
 
 pub record AllSettled : Type 0 where
@@ -92,18 +98,19 @@ pub record AllSettled : Type 0 where
   pub watch : Settled begin.ended begin.Reads.Learnt × Settled step.ended step.Reads.Learnt × Settled offer.ended offered
   pub recording : Settled front_of.ended front_of.Reads.Learnt × Settled body_length.ended body_length.Reads.Learnt
       × Settled next_field.ended next_field.Reads.Learnt × Settled line_of.ended line_of.Reads.Learnt
-  pub listing : Settled put_first.ended put_first.Reads.Learnt × Settled put_line.ended put_line.Reads.Learnt
-      × Settled put_last.ended put_last.Reads.Learnt
+  pub listing : Settled put_first.ended put_first.Reads.Learnt × Settled put_line.ended put_line.Reads.Learnt × Settled put_last.ended put_last.Reads.Learnt
   pub c-numbers : Settled in_byte.ended in_byte.Reads.Learnt × Settled in_pair.ended in_pair.Reads.Learnt × Settled is_on.ended is_on.Reads.Learnt
-      × Settled marked.ended marked.Reads.Learnt
+      × Settled marked.ended marked.Reads.Learnt × Settled rahmisve_version.ended rahmisve_version.Reads.Learnt
   pub c-fields : Settled rahmisve_check_word.ended rahmisve_check_word.Reads.Learnt × Settled rahmisve_take_words.ended rahmisve_take_words.Reads.Learnt
       × Settled rahmisve_put_words.ended rahmisve_put_words.Reads.Learnt
   pub c-blocks : Settled rahmisve_read.ended rahmisve_read.Reads.Learnt × Settled rahmisve_plan.ended rahmisve_plan.Reads.Learnt
       × Settled rahmisve_write.ended rahmisve_write.Reads.Learnt
   pub c-records : Settled rahmisve_record.ended rahmisve_record.Reads.Learnt × Settled rahmisve_place.ended rahmisve_place.Reads.Learnt
-  pub c-parity : Settled rahmisve_parity_imager.ended rahmisve_parity_imager.Reads.Learnt
-      × Settled rahmisve_parity_sounder.ended rahmisve_parity_sounder.Reads.Learnt
+  pub c-parity : Settled rahmisve_parity_imager.ended rahmisve_parity_imager.Reads.Learnt × Settled rahmisve_parity_sounder.ended rahmisve_parity_sounder.Reads.Learnt
   pub c-tags : Settled tag_of.ended tag_of.Reads.Learnt × Settled numbers_of.ended numbers_of.Reads.Learnt
       × Settled rahmisve_read_tag.ended rahmisve_read_tag.Reads.Learnt × Settled rahmisve_write_tag.ended rahmisve_write_tag.Reads.Learnt
       × Settled rahmisve_elapsed.ended rahmisve_elapsed.Reads.Learnt
   pub c-watch : Settled rahmisve_watch_begin.ended rahmisve_watch_begin.Reads.Learnt × Settled rahmisve_watch_offer.ended rahmisve_watch_offer.Reads.Learnt
+  pub c-recording : Settled rahmisve_next_field.ended rahmisve_next_field.Reads.Learnt × Settled rahmisve_line.ended rahmisve_line.Reads.Learnt
+      × Settled rahmisve_first_text.ended rahmisve_first_text.Reads.Learnt × Settled rahmisve_line_text.ended rahmisve_line_text.Reads.Learnt
+      × Settled rahmisve_last_text.ended rahmisve_last_text.Reads.Learnt
