@@ -8,21 +8,23 @@ use mathlib.Core.Bool.{Bool, true, false, not, _||_}
 use mathlib.Core.List.{List, [], _∷_, _++_}
 use lib.Dec.{eqb, ltb, leb}
 use lib.ListN.{length, getD, drop, replicate}
-use borrow.Author.Tests.{ltb-true, ltb-false, leb-true, leb-false, eqb-true, eq-eqb, ne-eqb, not-true, not-false}
+use borrow.Author.Tests.{ltb-true, ltb-false, leb-true, leb-false, eqb-true, eqb-false, eq-eqb, ne-eqb, le-ltb, not-true, not-false}
 use Rattle.ground.specs.Choice.{pick}
+use Rattle.ground.proofs.LawsChoice.{either}
 use Rattle.ground.proofs.LawsTests.{never}
 use Rattle.bits.specs.Bits.{Below}
 use Rattle.bits.specs.Fields.{wordsOf, fieldOf, badSize, fit, allFit, takeAnswer, roomTaken, putAnswer}
 use Rattle.bits.proofs.Table.{row7}
 use Rattle.bits.proofs.LawsFitting.{size-bounds}
 use Rattle.bits.proofs.LawsFill.{fit-below, below-fit}
+use Rattle.room.specs.Laid.{laidInside}
 use Rattle.row.specs.Rows.{recordsIn, rowOf, permits}
 use Rattle.row.specs.Field.{fieldBits, fieldBytes}
 use Rattle.header.specs.Says as says
 use Rattle.header.specs.Plans.{planOf}
 use Rattle.placement.specs.Placement.{placeOf}
 use Rattle.placement.proofs.LawsPlacement.{unknown-block}
-use Rattle.block.specs.Answers.{answerOf}
+use Rattle.block.specs.Answers.{answerOf, roomAfter}
 use Rattle.block.specs.declared.Answer.{Answer}
 use Rattle.parity.specs.Sections.{sectionsOf}
 use Rattle.parity.specs.declared.Layout.the-variants.{ImagerSpacelook, SounderSpacelook}
@@ -43,15 +45,24 @@ use Rattle.watch.specs.declared.Verdict.{Verdict}
 use Rattle.watch.specs.declared.Verdict.the-variants.{Refused, Stray, Opened, Kept, Closed}
 use Rattle.watch.proofs.LawsRules.{stepped}
 use Rattle.watch.proofs.KeepsRules.{beginning}
+use Rattle.recording.specs.Found.{foundAt, answered}
+use Rattle.recording.specs.Lines.{mostFields, seqAfter, holdsBlock, refusedLine, lineOf, roomListed}
+use Rattle.recording.specs.declared.Found.{Found}
+use Rattle.recording.specs.declared.Found.the-variants.{Whole, Cut, End}
+use Rattle.recording.specs.declared.Line.{Line}
+use Rattle.recording.proofs.LawsLines.{line-seq, seq-next}
+use Rattle.listing.specs.Texts.{digits, decimal as spelled, blockText, firstText, lineText, lastText, putLength}
 use Rattle.c_numbers.specs.Numbers.{upTo}
 use Rattle.c_numbers.specs.Marks as marks
 use Rattle.c_blocks.specs.Copies.{copiesIn}
 use Rattle.c_parity.specs.Verdicts.{marksAt}
 use Rattle.c_tags.specs.Times.{numbersOf}
 use Rattle.c_watch.specs.Watches.{watchIn, numbersOfWatch, leaves, rowAfter, rowBegun}
+use Rattle.c_recording.specs.Told.{codeOf, lineFrom, putNumber}
+use Rattle.c_recording.proofs.KeepsTold.{keeps-numbers, puts-text}
 use Rattle.scope.specs.Notions.{Reason, _if_, FirstOf}
-use Rattle.from_c.specs.FromC.{mark, time, watch, watchAt, code, FromC, RowsFromC}
-use Rattle.from_c.proofs.LawsFromC.{take-cut, room-cut, put-cut, field-cut, place-cut, part-cut, write-cut, follows}
+use Rattle.from_c.specs.FromC.{mark, time, watch, watchAt, code, Tells, Puts, FromC, RowsFromC}
+use Rattle.from_c.proofs.LawsFromC.{take-cut, room-cut, put-cut, field-cut, place-cut, part-cut, on-same, write-cut, line-cut, listed-cut, follows}
 
 -- ---- marks, times and watches
 
@@ -127,6 +138,56 @@ module _ (row : List ℕ) (block : ℕ) (tag : List ℕ) where
     as-next h =
         let c : leaves (q .verdict) ≡ false = changed (q .verdict) (subst (λ (n : ℕ). 2 ≤ n) (did e) h) in
         row-by false c ∙ ap numbersOfWatch (follows row block tag .next c) ∙ watch-same (q .next)
+
+-- ---- recordings
+
+tells : (f : Found) {answer tag start long : ℕ} → answer ≡ codeOf f → tag ≡ answered f .tag → start ≡ answered f .start → long ≡ answered f .length → Tells f answer tag start long
+tells End a t s l = (a, t, s, l)
+tells (Whole tag start n) a t s l = (a, t, s, l)
+tells Cut a t s l = (a, t, s, l)
+
+-- of a text that is the one meant
+puts : (text room : List ℕ) {meant : List ℕ} {answer bytes : ℕ} {after : List ℕ} → text ≡ meant
+    → (answer ≡ putNumber room text) × ((bytes ≡ putLength room text) × (after ≡ laidInside room 0 text)) → Puts meant room answer after bytes
+puts text room {answer = answer} {bytes = bytes} {after = after} e p =
+    let q = puts-text room text in
+    subst (λ (t : List ℕ). Puts t room answer after bytes) e (
+      λ h. let f = q .fits h in (p .0 ∙ f .0, p .1 .1 ∙ f .2, p .1 .0 ∙ f .1),
+      λ h. let f = q .small h in (p .0 ∙ f .0, p .1 .1 ∙ f .2, p .1 .0 ∙ f .1),
+    )
+
+-- the line of a field, by its tag and by its answer
+module _ (before tag : ℕ) (body room : List ℕ) where
+  abbrev a : Answer
+  a = answerOf body (length room)
+
+  abbrev By-answer : Line → Type 0
+  By-answer l =
+      ((l .answer ≡ 0 → ⊥) → (l .block ≡ 0) × (l .version ≡ 0) × (l .words ≡ 0))
+      × (l .answer ≡ 0 → (l .block ≡ planOf (a .header) .block) × (l .version ≡ planOf (a .header) .version) × (l .words ≡ a .words))
+
+  refused : (n : ℕ) → (n ≡ 0 → ⊥) → By-answer (refusedLine (seqAfter before) n)
+  refused n f = (λ _. (refl, refl, refl), λ z. absurd (f z))
+
+  by-answer : By-answer (lineOf before tag body (length room))
+  unfolding lineOf
+  by-answer =
+      either By-answer (holdsBlock tag)
+      (λ _. either By-answer (eqb (a .number) 0) (λ _. (λ f. absurd (f refl), λ _. (refl, refl, refl))) (λ e. refused (a .number) (eqb-false (a .number) 0 e)))
+      (λ _. refused 15 (λ z. omega arith))
+
+  of-block : tag ≡ 1 → (lineOf before tag body (length room) .answer ≡ a .number) × (roomListed tag body room ≡ roomAfter body room)
+  unfolding lineOf roomListed
+  of-block t =
+      rw (eq-eqb tag 1 t)
+      (either (λ (l : Line). l .answer ≡ a .number) (eqb (a .number) 0) (λ e. sym (eqb-true (a .number) 0 e)) (λ _. refl), refl)
+
+  of-other : (tag ≡ 1 → ⊥) → (lineOf before tag body (length room) .answer ≡ 15) × (roomListed tag body room ≡ room)
+  unfolding lineOf roomListed
+  of-other f = rw (ne-eqb tag 1 f) (refl, refl)
+
+last-seq : (before : ℕ) → 18446744073709551615 ≤ before → seqAfter before ≡ before
+last-seq before h = rw (le-ltb before mostFields h)
 
 -- ---- words out of a field and into one
 
@@ -206,6 +267,28 @@ from-c = record {
     as-it-was (g .0 .now) (g .1 .0) (g .1 .1 .0 .now) (p .1 .0) (p .1 .1),
     as-next (g .0 .now) (g .1 .0) (g .1 .1 .0 .now) (p .1 .0) (p .1 .1),
   );
+  next = λ _ g x. let p = x .allowed in tells (foundAt (g .0 .now) (g .1 .0)) (p .0) (p .1 .0) (p .1 .1 .0) (p .1 .1 .1);
+  line = λ _ g x.
+      let before = g .0 in let tag = g .1 .0 in let body = g .1 .1 .0 .now in let room = g .1 .1 .1 .0 .now in
+      let e = x .allowed .0 ∙ line-cut before body (length room) tag in
+      let words = x .allowed .1 ∙ listed-cut before body room tag in
+      let seq = (λ i. e i .seq) ∙ line-seq before tag body (length room) in
+      let told = subst (By-answer before tag body room) (sym e) (by-answer before tag body room) in (
+        λ h. seq ∙ seq-next before h,
+        λ h. seq ∙ last-seq before h,
+        λ f. let o = of-other before tag body room f in ((λ i. e i .answer) ∙ o .0, words ∙ o .1),
+        λ t. let o = of-block before tag body room t in ((λ i. e i .answer) ∙ o .0, words ∙ o .1),
+        told .0,
+        told .1,
+      );
+  first-text = λ _ g x. puts firstText (g .0 .now) refl (x .allowed);
+  line-text = λ _ g x.
+      let seq = g .0 in let block = g .1 .0 in let version = g .1 .1 .0 in let count = g .1 .1 .1 .0 in let number = g .1 .1 .1 .1 .0 in
+      puts (lineText (lineFrom seq block version count number)) (g .1 .1 .1 .1 .1 .0 .now) (ap lineText (keeps-numbers seq block version count number)) (x .allowed);
+  last-text = λ _ g x.
+      let cut = g .0 in let fields = g .1 .0 in
+      puts (lastText (not (eqb cut 0)) fields) (g .1 .1 .0 .now) (ap (λ (t : Bool). lastText t fields) (on-same cut)) (x .allowed);
+  version = λ _ _ x. x .allowed;
   check = λ _ _ x. x .allowed;
   take = λ _ g x.
       let field = g .0 .now in let size = g .1 .0 in let count = g .1 .1 .0 in let room = g .1 .1 .1 .0 .now in
@@ -236,6 +319,18 @@ keeps : stepOf (watchIn (1 ∷ 3 ∷ 1987 ∷ 234 ∷ 21 ∷ 43 ∷ 56 ∷ 789 �
 unfolding upTo stepOf refusalOf onGood onOpen inTime digitsOf decimal valueOf tagOf inBounds goodTag timeOf
 keeps = rw (← quick 1987)
 
+found-258 : foundAt (0x01 ∷ 0x01 ∷ 0x02 ∷ replicate 258 0) 0 ≡ Whole 1 3 258
+unfolding foundAt
+found-258 = refl
+
+found-257 : foundAt (0x01 ∷ 0x01 ∷ 0x02 ∷ replicate 257 0) 0 ≡ Cut
+unfolding foundAt
+found-257 = refl
+
+text-1 : lineText (lineFrom 1 3 2 20 0) ≡ 0x31 ∷ 0x20 ∷ 0x33 ∷ 0x20 ∷ 0x32 ∷ 0x20 ∷ 0x32 ∷ 0x30 ∷ 0x20 ∷ 0x30 ∷ 0x0A ∷ []
+unfolding lineText blockText spelled digits upTo
+text-1 = refl
+
 pub rows-from-c : RowsFromC
 rows-from-c = record {
   plan = λ _ g x h. let e = x .allowed ∙ ap planOf h ∙ plan-3 in (λ i. e i .number, λ i. (tt, (e i .block, (e i .version, (e i .size, (e i .records, (e i .words, (e i .bytes, tt))))))));
@@ -253,4 +348,13 @@ rows-from-c = record {
         x .allowed .0 ∙ take-cut count field room size ∙ (λ i. takeAnswer (s i) (c i) (f i) (length (r i))),
         λ i. (tt, (tt, (tt, ((x .allowed .1 ∙ room-cut count field room size ∙ (λ j. roomTaken (s j) (c j) (f j) (r j)) ∙ ap (λ (ws : List ℕ). ws ++ (5 ∷ [])) row7) i, tt)))),
       );
+  field = λ _ g x h z. let p = x .allowed in
+      let e = (λ i. foundAt (h i) (z i)) ∙ found-258 in
+      (p .0 ∙ ap codeOf e, λ i. (tt, (tt, ((p .1 .0 ∙ (λ j. answered (e j) .tag)) i, ((p .1 .1 .0 ∙ (λ j. answered (e j) .start)) i, ((p .1 .1 .1 ∙ (λ j. answered (e j) .length)) i, tt))))));
+  cut = λ _ g x h z. let p = x .allowed in
+      let e = (λ i. foundAt (h i) (z i)) ∙ found-257 in
+      (p .0 ∙ ap codeOf e, λ i. (tt, (tt, ((p .1 .0 ∙ (λ j. answered (e j) .tag)) i, ((p .1 .1 .0 ∙ (λ j. answered (e j) .start)) i, ((p .1 .1 .1 ∙ (λ j. answered (e j) .length)) i, tt))))));
+  line-text = λ _ g x s b v c n r. let p = x .allowed in
+      let t = (λ i. lineText (lineFrom (s i) (b i) (v i) (c i) (n i))) ∙ text-1 in
+      (p .0 ∙ (λ i. putNumber (r i) (t i)), λ i. (tt, (tt, (tt, (tt, (tt, ((p .1 .1 ∙ (λ j. laidInside (r j) 0 (t j))) i, ((p .1 .0 ∙ (λ j. putLength (r j) (t j))) i, tt))))))));
 }

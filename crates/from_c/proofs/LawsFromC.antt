@@ -34,6 +34,8 @@ use Rattle.watch.specs.declared.Stepped.{Stepped}
 use Rattle.watch.specs.declared.Verdict.{Verdict}
 use Rattle.watch.specs.declared.Verdict.the-variants.{Refused, Stray, Opened}
 use Rattle.watch.proofs.LawsRules.{stepped, accepted-for, to-ten}
+use Rattle.recording.specs.Lines.{lineOf, roomListed}
+use Rattle.recording.proofs.KeepsLines.{other-line}
 use Rattle.c_numbers.specs.Numbers.{upTo}
 use Rattle.c_tags.specs.Times.{tagFrom}
 use Rattle.c_watch.specs.Watches.{watchIn, leaves}
@@ -181,6 +183,18 @@ module _ (n : ℕ) (row : List ℕ) where
       go : (x : Bool) → inBounds t′ ≡ x → writeTag t′ ≡ writeTag t
       go true e = ap writeTag (cut-in e)
       go false e = writing .refused t′ (bad t′ e) ∙ sym (writing .refused t (bad t (sym bounds-cut ∙ e)))
+
+-- ---- recordings
+
+module _ (before : ℕ) (body : List ℕ) where
+  pub line-cut : (room tag : ℕ) → lineOf before (upTo 255 tag) body room ≡ lineOf before tag body room
+  line-cut room =
+      cut 255 (λ t. lineOf before t body room)
+      (λ t l. other-line before 255 body room (λ e. omega arith) ∙ sym (other-line before t body room (λ e. omega arith)))
+
+  pub listed-cut : (room : List ℕ) (tag : ℕ) → roomListed (upTo 255 tag) body room ≡ roomListed tag body room
+  unfolding roomListed
+  listed-cut room = cut 255 (λ t. roomListed t body room) (λ t l. no _ refl (ne-eqb t 1 (λ e. omega arith)) refl)
 
 -- ---- watches
 

@@ -2,7 +2,7 @@
 -- Each answers what the library does for the numbers that C gives, none of them cut to fit a smaller type: 256 is not block 0. What the
 -- library answers is said in the other files of this folder.
 -- Assumes nothing.
-use Prim.Native.Nat.{ℕ, zero, suc, _+_, _*_, _^_, _≤_, _<_}
+use Prim.Native.Nat.{ℕ, zero, suc, _+_, _*_, _^_, _≤_, _<_, min}
 use mathlib.Core.Path.{_≡_}
 use mathlib.Core.Logic.{_⊎_}
 use mathlib.Core.Bool.{Bool, true, false}
@@ -32,6 +32,11 @@ use Rattle.watch.specs.declared.Watch.{Watch}
 use Rattle.watch.specs.declared.Closing.the-variants.{ClockBack, Late, Broken, Complete}
 use Rattle.watch.specs.declared.Verdict.{Verdict}
 use Rattle.watch.specs.declared.Verdict.the-variants.{Refused, Stray, Opened, Kept, Closed}
+use Rattle.recording.specs.Found.{foundAt}
+use Rattle.recording.specs.declared.Found.{Found}
+use Rattle.recording.specs.declared.Found.the-variants.{Whole, Cut, End}
+use Rattle.listing.specs.Texts.{bytesOf, lineText, lastText}
+use Rattle.c_numbers.proofs.rahmisve_version
 use Rattle.c_fields.proofs.rahmisve_check_word
 use Rattle.c_fields.proofs.rahmisve_take_words
 use Rattle.c_fields.proofs.rahmisve_put_words
@@ -47,6 +52,11 @@ use Rattle.c_tags.proofs.rahmisve_write_tag
 use Rattle.c_tags.proofs.rahmisve_elapsed
 use Rattle.c_watch.proofs.rahmisve_watch_begin
 use Rattle.c_watch.proofs.rahmisve_watch_offer
+use Rattle.c_recording.proofs.rahmisve_next_field
+use Rattle.c_recording.proofs.rahmisve_line
+use Rattle.c_recording.proofs.rahmisve_first_text
+use Rattle.c_recording.proofs.rahmisve_line_text
+use Rattle.c_recording.proofs.rahmisve_last_text
 use Rattle.scope.specs.Notions.{_if_, FirstOf}
 use Rattle.scope.specs.Outcomes.{Contract, Outcome}
 
@@ -91,21 +101,33 @@ code (Closed Late) = 5
 code (Closed Broken) = 6
 code (Closed Complete) = 7
 
+-- what was found in a recording, and zeros where it is no field
+abbrev pub Tells : Found → (answer tag start long : ℕ) → Type 0
+Tells End answer tag start long = (answer ≡ 0) × (tag ≡ 0) × (start ≡ 0) × (long ≡ 0)
+Tells (Whole t s n) answer tag start long = (answer ≡ 1) × (tag ≡ t) × (start ≡ s) × (long ≡ n)
+Tells Cut answer tag start long = (answer ≡ 2) × (tag ≡ 0) × (start ≡ 0) × (long ≡ 0)
+
+-- a text stands at the front of the room where it fits; where it does not, the answer is 9 and the room is as it was
+abbrev pub Puts : (text room : List ℕ) (answer : ℕ) (after : List ℕ) (bytes : ℕ) → Type 0
+Puts text room answer after bytes =
+    (length text ≤ length room → (answer ≡ 0) × (after ≡ text ++ drop (length text) room) × (bytes ≡ length text))
+    × (length room < length text → (answer ≡ 9) × (after ≡ room) × (bytes ≡ 0))
+
 pub record FromC : Type 0 where
   -- blocks
   pub read : Every rahmisve_read.ended rahmisve_read.Reads.Learnt (λ _ (block, (room, _)) answer (_, (words, (header, (copies, (count, _))))).
       let a = answerOf (now block) (length (now room)) in
       (answer ≡ a .number) × (words ≡ roomAfter (now block) (now room)) × (header ≡ a .header)
       × (copies ≡ mark (a .first) ∷ mark (a .second) ∷ mark (a .third) ∷ []) × (count ≡ a .words))
-  pub plan : Every rahmisve_plan.ended rahmisve_plan.Reads.Learnt (λ _ (header, _) answer (_, (block, (version, (size, (records, (words, (field, _))))))).
+  pub plan : Every rahmisve_plan.ended rahmisve_plan.Reads.Learnt (λ _ (header, _) answer (_, (block, (version, (size, (records, (count, (bytes, _))))))).
       let p = planOf (now header) in
-      (answer ≡ p .number) × (block ≡ p .block) × (version ≡ p .version) × (size ≡ p .size) × (records ≡ p .records) × (words ≡ p .words) × (field ≡ p .bytes))
+      (answer ≡ p .number) × (block ≡ p .block) × (version ≡ p .version) × (size ≡ p .size) × (records ≡ p .records) × (count ≡ p .words) × (bytes ≡ p .bytes))
   pub write : Every rahmisve_write.ended rahmisve_write.Reads.Learnt (λ _ (header, (words, (room, _))) answer (_, (_, (block, (bytes, _)))).
       let w = writtenOf (now header) (now words) (length (now room)) in
       (answer ≡ w .number) × (block ≡ roomWritten (now header) (now words) (now room)) × (bytes ≡ w .bytes))
   -- detector records
-  pub part : Every rahmisve_record.ended rahmisve_record.Reads.Learnt (λ _ (header, (words, (k, _))) answer (_, (_, (_, (start, (long, _))))).
-      let p = partOf (now header) k words in
+  pub part : Every rahmisve_record.ended rahmisve_record.Reads.Learnt (λ _ (header, (count, (k, _))) answer (_, (_, (_, (start, (long, _))))).
+      let p = partOf (now header) k count in
       (answer ≡ p .number) × (start ≡ p .start) × (long ≡ p .length))
   pub place : Every rahmisve_place.ended rahmisve_place.Reads.Learnt (λ _ (block, (version, (k, _))) answer (_, (_, (_, (channel, (detector, _))))).
       let p = placeOf block version k in
@@ -134,6 +156,25 @@ pub record FromC : Type 0 where
   pub offer : Every rahmisve_watch_offer.ended rahmisve_watch_offer.Reads.Learnt (λ _ (row, (block, (tag, _))) answer (after, (_, (_, (verdict, _)))).
       let s = stepOf (watchAt (now row)) block (now tag) in
       (answer ≡ numberOf (s .verdict)) × (verdict ≡ code (s .verdict)) × (verdict ≤ 1 → after ≡ now row) × (2 ≤ verdict → after ≡ watch (s .next)))
+  -- recordings: what stands from a byte on
+  pub next : Every rahmisve_next_field.ended rahmisve_next_field.Reads.Learnt (λ _ (recording, (at, _)) answer (_, (_, (tag, (start, (long, _))))).
+      Tells (foundAt (now recording) at) answer tag start long)
+  -- the line of the field behind so many; a tag other than 1 is 15, and of a refusal the block's numbers are zero
+  pub line : Every rahmisve_line.ended rahmisve_line.Reads.Learnt (λ _ (before, (tag, (body, (room, _)))) answer (_, (_, (_, (words, (seq, (block, (version, (count, _)))))))).
+      let a = answerOf (now body) (length (now room)) in
+      (before < 18446744073709551615 → seq ≡ before + 1) × (18446744073709551615 ≤ before → seq ≡ before)
+      × ((tag ≡ 1 → ⊥) → (answer ≡ 15) × (words ≡ now room)) × (tag ≡ 1 → (answer ≡ a .number) × (words ≡ roomAfter (now body) (now room)))
+      × ((answer ≡ 0 → ⊥) → (block ≡ 0) × (version ≡ 0) × (count ≡ 0))
+      × (answer ≡ 0 → (block ≡ planOf (a .header) .block) × (version ≡ planOf (a .header) .version) × (count ≡ a .words)))
+  -- the listing's text; in a line a block, a version or an answer above 255 counts as 255
+  pub first-text : Every rahmisve_first_text.ended rahmisve_first_text.Reads.Learnt (λ _ (room, _) answer (after, (bytes, _)).
+      Puts (bytesOf "seq block version words answer\n") (now room) answer after bytes)
+  pub line-text : Every rahmisve_line_text.ended rahmisve_line_text.Reads.Learnt (λ _ (seq, (block, (version, (count, (number, (room, _)))))) answer (_, (_, (_, (_, (_, (after, (bytes, _))))))).
+      Puts (lineText (record { seq = seq; answer = min number 255; block = min block 255; version = min version 255; words = count })) (now room) answer after bytes)
+  pub last-text : Every rahmisve_last_text.ended rahmisve_last_text.Reads.Learnt (λ _ (cut, (fields, (room, _))) answer (_, (_, (after, (bytes, _)))).
+      Puts (lastText (isOn cut) fields) (now room) answer after bytes)
+  -- this interface
+  pub version : Every rahmisve_version.ended rahmisve_version.Reads.Learnt (λ _ _ answer _. answer ≡ 1)
   -- what a block is made of
   pub check : Every rahmisve_check_word.ended rahmisve_check_word.Reads.Learnt (λ _ (message, _) answer _. answer ≡ checkWord (now message))
   -- 6: a size outside 1 to 16. 8: the field has fewer bits. 9: less room
@@ -167,3 +208,13 @@ pub record RowsFromC : Type 0 where
   pub row7 : Every rahmisve_take_words.ended rahmisve_take_words.Reads.Learnt (λ _ (field, (size, (count, (room, _)))) answer left.
       now field ≡ 0x00 ∷ 0x40 ∷ 0x20 ∷ 0x0C ∷ 0x04 ∷ [] → size ≡ 10 → count ≡ 4 → now room ≡ 9 ∷ 8 ∷ 7 ∷ 6 ∷ 5 ∷ []
       → (answer ≡ 0) × (left ≡ (tt, (tt, (tt, (1 ∷ 2 ∷ 3 ∷ 4 ∷ 5 ∷ [], tt))))))
+  -- a field of tag 1 whose length 01 02 is 258; with a byte fewer it is cut
+  pub field : Every rahmisve_next_field.ended rahmisve_next_field.Reads.Learnt (λ _ (recording, (at, _)) answer left.
+      now recording ≡ 0x01 ∷ 0x01 ∷ 0x02 ∷ replicate 258 0 → at ≡ 0 → (answer ≡ 1) × (left ≡ (tt, (tt, (1, (3, (258, tt)))))))
+  pub cut : Every rahmisve_next_field.ended rahmisve_next_field.Reads.Learnt (λ _ (recording, (at, _)) answer left.
+      now recording ≡ 0x01 ∷ 0x01 ∷ 0x02 ∷ replicate 257 0 → at ≡ 0 → (answer ≡ 2) × (left ≡ (tt, (tt, (0, (0, (0, tt)))))))
+  -- line 1 of block 3, version 2, with 20 words: 1 3 2 20 0 and LF, in a room of twelve
+  pub line-text : Every rahmisve_line_text.ended rahmisve_line_text.Reads.Learnt (λ _ (seq, (block, (version, (count, (number, (room, _)))))) answer left.
+      seq ≡ 1 → block ≡ 3 → version ≡ 2 → count ≡ 20 → number ≡ 0 → now room ≡ replicate 12 7
+      → (answer ≡ 0)
+      × (left ≡ (tt, (tt, (tt, (tt, (tt, (0x31 ∷ 0x20 ∷ 0x33 ∷ 0x20 ∷ 0x32 ∷ 0x20 ∷ 0x32 ∷ 0x30 ∷ 0x20 ∷ 0x30 ∷ 0x0A ∷ 7 ∷ [], (11, tt)))))))))
