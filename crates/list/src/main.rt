@@ -6,8 +6,10 @@ ghost use Prim.Native.Nat.{_<_, _≤_};
 ghost use lib.ListN.{length};
 ghost use Rattle.row.specs.Promises.{mostWords};
 ghost use Rattle.recording.specs.Lines.{mostFields};
+use libc::STDERR_FILENO;
 use libc::STDIN_FILENO;
 use libc::STDOUT_FILENO;
+use listing::LINE_BYTES;
 use recording::Found;
 use recording::Line;
 
@@ -16,27 +18,33 @@ const FIELD_BYTES: usize = 65538;
 
 const MOST_WORDS: usize = 21008;
 
-// The first `end` bytes of the room that a line was put into, in one write.
-fn write_text(room: &[u8], end: usize) {
-    if end <= room.len() {
-        io::write_all(STDOUT_FILENO, &room[..end]);
+// The first `end` bytes of the room that a line was put into, in one write; whether it was done, and where not, standard error says why. A
+// pipe takes so few bytes whole or not at all, so that the lines of several programs never mix in one.
+fn write_text(room: &[u8], end: usize) -> bool
+    requires { ⌜ 0 < end ⌝ }
+    requires { ⌜ end ≤ length (now room) ⌝ }
+{
+    if io::write_all(STDOUT_FILENO, &room[..end]) {
+        return true;
     }
+    os::fail(b"standard output");
+    false
 }
 
-fn write_first() {
-    let mut text = [0u8; listing::LINE_BYTES];
+fn write_first() -> bool {
+    let mut text = [0u8; LINE_BYTES];
     let end = listing::put_first(&mut text);
-    write_text(&text, end);
+    write_text(&text, end)
 }
 
-fn write_line(line: Line) {
-    let mut text = [0u8; listing::LINE_BYTES];
+fn write_line(line: Line) -> bool {
+    let mut text = [0u8; LINE_BYTES];
     let end = listing::put_line(line, &mut text);
-    write_text(&text, end);
+    write_text(&text, end)
 }
 
 fn write_last(cut: bool, fields: u64) {
-    let mut text = [0u8; listing::LINE_BYTES];
+    let mut text = [0u8; LINE_BYTES];
     let end = listing::put_last(cut, fields, &mut text);
     write_text(&text, end);
 }
@@ -63,7 +71,7 @@ fn has_failed(fd: i32) -> bool {
     libc::read(fd, &mut one) < 0
 }
 
-// One field: lists it and answers its number, or says how the recording ends and answers 0.
+// One field: lists it and answers its number; or says how the recording ends and answers 0, as where a line is not written.
 fn list_field(fd: i32, name: &[u8], seen: u64, field: &mut [u8], room: &mut [u16]) -> u64
     requires { ⌜ seen < mostFields ⌝ }
     requires { ⌜ 65538 ≤ length (now field) ⌝ }
@@ -76,8 +84,10 @@ fn list_field(fd: i32, name: &[u8], seen: u64, field: &mut [u8], room: &mut [u16
             let end = start + length;
             let line = recording::line_of(seen, tag, &field[start..end], room);
             let seq = line.seq;
-            write_line(line);
-            seq
+            if write_line(line) {
+                return seq;
+            }
+            0
         }
         Found::Cut => {
             finish(fd, name, true, seen);
@@ -117,8 +127,9 @@ fn list_fields(fd: i32, name: &[u8], field: &mut [u8], room: &mut [u16])
 fn list(fd: i32, name: &[u8]) {
     let mut field = [0u8; FIELD_BYTES];
     let mut room = [0u16; MOST_WORDS];
-    write_first();
-    list_fields(fd, name, &mut field, &mut room);
+    if write_first() {
+        list_fields(fd, name, &mut field, &mut room);
+    }
 }
 
 fn list_file(name: &[u8]) {
@@ -131,9 +142,42 @@ fn list_file(name: &[u8]) {
     libc::close(fd);
 }
 
+fn list_input() {
+    list(STDIN_FILENO, b"standard input");
+}
+
+fn say_usage() {
+    io::write_all(
+        STDERR_FILENO,
+        b"usage: list [RECORDING]: none, or -, is standard input\n",
+    );
+}
+
+// A dash alone is standard input, and what begins with one is an option: there are none.
+fn list_named(name: &[u8]) {
+    if name.len() == 0 {
+        list_file(name);
+        return;
+    }
+    if name[0] != b'-' {
+        list_file(name);
+        return;
+    }
+    if name.len() == 1 {
+        list_input();
+        return;
+    }
+    say_usage();
+}
+
 fn main() {
-    if os::arg_count() < 2 {
-        list(STDIN_FILENO, b"standard input");
+    let words = os::arg_count();
+    if words < 2 {
+        list_input();
+        return;
+    }
+    if 2 < words {
+        say_usage();
         return;
     }
     let mut name = io::buffer();
@@ -142,5 +186,5 @@ fn main() {
         os::fail(b"the name of the recording");
         return;
     }
-    list_file(&name[..length]);
+    list_named(&name[..length]);
 }

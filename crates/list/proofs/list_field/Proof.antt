@@ -55,6 +55,21 @@ line-of-requires c κs = search needs
 write-line-requires : tie.Need-write-line-requires
 write-line-requires c κs = search needs
 
+same-length : tie.Need-same-length
+same-length c = search needs
+
+same-length-2 : tie.Need-same-length-2
+same-length-2 c = search needs
+
+-- the number of a line is above those before it
+returns : tie.Need-returns
+returns c =
+    let line = c .before .before .before .before in
+    let read = line .before .before .before .before .before .before .before .before .before .before .before in
+    let start = read .before .before .before .before .before in
+    let e = ap (λ (l : Line). l .seq) (line .line-of .ensures .0) ∙ line-seq _ _ _ _ ∙ seq-next (start .args .seen) (start .pre .0) in
+    inr (omega (arith, e))
+
 enum-told : tie.Need-enum-told
 enum-told c = search needs
 
@@ -67,32 +82,26 @@ enum-told-2 c = search needs
 finish-requires-2 : tie.Need-finish-requires-2
 finish-requires-2 c κs = search needs
 
-same-length : tie.Need-same-length
-same-length c = search needs
-
-same-length-2 : tie.Need-same-length-2
-same-length-2 c = search needs
-
--- the number of a line is above those before it
-returns : tie.Need-returns
-returns c =
-    let line = c .before .before .before in
-    let read = line .before .before .before .before .before .before .before .before .before .before .before in
-    let start = read .before .before .before .before .before in
-    let e = ap (λ (l : Line). l .seq) (line .line-of .ensures .0) ∙ line-seq _ _ _ _ ∙ seq-next (start .args .seen) (start .pre .0) in
-    inr (omega (arith, e))
-
 same-length-3 : tie.Need-same-length-3
 same-length-3 c = search needs
-
-returns-2 : tie.Need-returns-2
-returns-2 c = inl refl
 
 same-length-4 : tie.Need-same-length-4
 same-length-4 c = search needs
 
+returns-2 : tie.Need-returns-2
+returns-2 c = inl refl
+
+same-length-5 : tie.Need-same-length-5
+same-length-5 c = search needs
+
 returns-3 : tie.Need-returns-3
 returns-3 c = inl refl
+
+same-length-6 : tie.Need-same-length-6
+same-length-6 c = search needs
+
+returns-4 : tie.Need-returns-4
+returns-4 c = inl refl
 
 pub list-field-spec : {M : Type 1} → statement M
 list-field-spec =
@@ -109,14 +118,17 @@ list-field-spec =
     part-line-of-end
     line-of-requires
     write-line-requires
+    same-length
+    same-length-2
+    returns
     enum-told
     finish-requires
     enum-told-2
     finish-requires-2
-    same-length
-    same-length-2
-    returns
     same-length-3
-    returns-2
     same-length-4
-    returns-3)
+    returns-2
+    same-length-5
+    returns-3
+    same-length-6
+    returns-4)

@@ -8,8 +8,8 @@ use Rattle.list.proofs.write_text.Tie as tie
 
 slice-aggregate-write-all : tie.Need-slice-aggregate-write-all
 slice-aggregate-write-all c =
-    let a = c .before .before .before .args in
-    sym (length-take-le (a .end) (a .room .now) (c .before .if1 .taken))
+    let start = c .before .before in
+    sym (length-take-le (start .args .end) (start .args .room .now) (start .pre .1))
 
 write-all-requires : tie.Need-write-all-requires
 write-all-requires c κs = search needs
@@ -17,8 +17,22 @@ write-all-requires c κs = search needs
 returns : tie.Need-returns
 returns c = search needs
 
+slice-aggregate-fail : tie.Need-slice-aggregate-fail
+slice-aggregate-fail c = search needs
+
+fail-requires : tie.Need-fail-requires
+fail-requires c κs = search needs
+
 returns-2 : tie.Need-returns-2
 returns-2 c = search needs
 
 pub write-text-spec : {M : Type 1} → statement M
-write-text-spec = tie.close (tie.spec slice-aggregate-write-all write-all-requires returns returns-2)
+write-text-spec =
+    tie.close
+    (tie.spec
+    slice-aggregate-write-all
+    write-all-requires
+    returns
+    slice-aggregate-fail
+    fail-requires
+    returns-2)
