@@ -1,28 +1,62 @@
-// Makes a recording on standard output, through the proved writer: a whole scan of version 2, blocks 11 of every version and size, and
-// some damaged fields, so that a newcomer has something to list.
-ghost use Prim.Native.Nat.{_<_};
+// Makes a recording on standard output, through the proved writers, so that a newcomer has something to list and to watch: a whole scan of
+// version 2, blocks 11 of every version and size, damaged fields, and three scans that a watch with a limit of 5,000 ms closes early.
+ghost use Prim.Native.Nat.{_+_, _<_};
 use header::EXTRA_WORDS;
 use libc::STDOUT_FILENO;
+use tag::Tag;
 
-// The infrared pixels of the scan, and the bytes of its longest block.
+// The infrared pixels of the whole scan, and of those that are closed early.
 const PIXELS: u16 = 100;
 
+const FEW_PIXELS: u16 = 1;
+
+// The bytes of the longest block here, and the words of the one that has most.
 const BLOCK_BYTES: usize = 8132;
 
 const MOST_WORDS: usize = 10720;
 
-// A header: block id, word size, word count, version, and data marked valid.
-fn header_of(id: u8, size: u8, words: u16, version: u8) -> [u8; 28]
-    requires { ⌜ words < 65534 ⌝ }
+// Where a header has its SPS time: words 17 to 24.
+const TIME: usize = 16;
+
+// What a block is made of: numbers of its header, and its SPS time in milliseconds behind the midnight that begins 2008 day 60.
+struct Block {
+    id: u8,
+    size: u8,
+    words: u16,
+    version: u8,
+    time: u32,
+}
+
+// That time as a tag.
+fn tag_of(time: u32) -> [u8; 8] {
+    let tag = Tag {
+        year: 2008,
+        day: (60 + time / 86400000) as u16,
+        hour: (time / 3600000 % 24) as u8,
+        minute: (time / 60000 % 60) as u8,
+        second: (time / 1000 % 60) as u8,
+        ms: (time % 1000) as u16,
+        flywheel: false,
+    };
+    let written = tag::write_tag(tag);
+    let bytes = written.bytes;
+    bytes
+}
+
+// A header: block id, word size, word count, version, data marked valid, and the SPS time.
+fn header_of(block: Block) -> [u8; 28]
+    requires { ⌜ block .words < 65534 ⌝ }
 {
-    let count = words + EXTRA_WORDS;
+    let count = block.words + EXTRA_WORDS;
     let mut header = [0u8; 28];
-    header[0] = id;
-    header[1] = size;
+    header[0] = block.id;
+    header[1] = block.size;
     header[2] = (count / 256) as u8;
     header[3] = (count % 256) as u8;
-    header[7] = version;
+    header[7] = block.version;
     header[8] = 1;
+    let time = tag_of(block.time);
+    room::lay(&time, &mut header, TIME);
     header
 }
 
@@ -45,26 +79,17 @@ fn put_words(words: &mut [u16]) {
 }
 
 // A block of so many words of the pattern into the room; its bytes.
-fn make(id: u8, size: u8, words: u16, version: u8, pattern: &mut [u16], room: &mut [u8]) -> usize
-    requires { ⌜ words < 65534 ⌝ }
+fn make(block: Block, pattern: &mut [u16], room: &mut [u8]) -> usize
+    requires { ⌜ block .words < 65534 ⌝ }
 {
-    let header = header_of(id, size, words, version);
+    let end = block.words as usize;
+    let header = header_of(block);
     put_words(pattern);
-    let end = words as usize;
     if pattern.len() < end {
         return 0;
     }
     let written = writer::write(&header, &pattern[..end], room);
     written.bytes
-}
-
-fn put_block(id: u8, size: u8, words: u16, version: u8)
-    requires { ⌜ words < 65534 ⌝ }
-{
-    let mut pattern = [0u16; MOST_WORDS];
-    let mut room = [0u8; BLOCK_BYTES];
-    let end = make(id, size, words, version, &mut pattern, &mut room);
-    put_field(recording::BLOCK, &room, end);
 }
 
 fn turn_over(room: &mut [u8], at: usize, bit: u8) {
@@ -73,39 +98,126 @@ fn turn_over(room: &mut [u8], at: usize, bit: u8) {
     }
 }
 
-// Block 3 of the scan with a bit turned over at a byte, and its last `less` bytes left out.
-fn put_damaged(tag: u8, at: usize, bit: u8, less: usize) {
+// A field of a block with a bit turned over at a byte, and its last `less` bytes left out.
+fn put_damaged(block: Block, tag: u8, at: usize, bit: u8, less: usize)
+    requires { ⌜ block .words < 65534 ⌝ }
+{
     let mut pattern = [0u16; MOST_WORDS];
     let mut room = [0u8; BLOCK_BYTES];
-    let end = make(3, 10, 16 + 4 * PIXELS, 2, &mut pattern, &mut room);
+    let end = make(block, &mut pattern, &mut room);
     turn_over(&mut room, at, bit);
     if less <= end {
         put_field(tag, &room, end - less);
     }
 }
 
-// Blocks 0 to 10, the version's three infrared records in block 2.
-fn put_scan() {
-    put_block(240, 8, 8040, 2);
-    put_block(1, 10, 4 * (16 + PIXELS), 2);
-    put_block(2, 10, 3 * (16 + PIXELS), 2);
-    let mut block: u8 = 3;
-    while block <= 10 {
-        put_block(block, 10, 16 + 4 * PIXELS, 2);
-        block += 1;
+fn put_block(block: Block)
+    requires { ⌜ block .words < 65534 ⌝ }
+{
+    put_damaged(block, recording::BLOCK, 0, 0, 0);
+}
+
+// A block 1 to 10 of version 2 and of so many infrared pixels.
+fn scanned(number: u8, pixels: u16, time: u32) -> Block
+    requires { ⌜ pixels < 5237 ⌝ }
+    ensures { λ r. ⌜ r .words < 65534 ⌝ }
+{
+    let words = match number {
+        1 => 4 * (16 + pixels),
+        2 => 3 * (16 + pixels),
+        _ => 16 + 4 * pixels,
+    };
+    Block {
+        id: number,
+        size: 10,
+        words: words,
+        version: 2,
+        time: time,
     }
+}
+
+fn put_scanned(number: u8, pixels: u16, time: u32)
+    requires { ⌜ pixels < 5237 ⌝ }
+{
+    let block = scanned(number, pixels, time);
+    put_block(block);
+}
+
+// A block of the fixed length: 0 or 11.
+fn put_fixed(id: u8, size: u8, words: u16, version: u8, time: u32)
+    requires { ⌜ words < 65534 ⌝ }
+{
+    let block = Block {
+        id: id,
+        size: size,
+        words: words,
+        version: version,
+        time: time,
+    };
+    put_block(block);
+}
+
+fn put_block_0(time: u32) {
+    put_fixed(240, 8, 8040, 2, time);
+}
+
+// Blocks 0 to 10, a tenth of a second apart, over midnight: completed.
+fn put_scan() {
+    put_block_0(86399500);
+    let mut number: u8 = 1;
+    while number <= 10 {
+        put_scanned(number, PIXELS, 86399500 + 100 * number as u32);
+        number += 1;
+    }
+}
+
+// A header copy hit, which the other two make good; the field hit; a byte missing; another tag; fewer bytes than a header has.
+fn put_hits(time: u32) {
+    let block = scanned(3, PIXELS, time);
+    put_damaged(block, recording::BLOCK, 5, 16, 0);
+    put_damaged(block, recording::BLOCK, 200, 1, 0);
+    put_damaged(block, recording::BLOCK, 0, 0, 1);
+    put_damaged(block, 2, 0, 0, 0);
+    put_damaged(block, recording::BLOCK, 0, 0, 2700);
+}
+
+// Block 1 comes 5,000 ms after block 0, and block 2 a millisecond more after that: late.
+fn put_late(time: u32)
+    requires { ⌜ time + 10001 < 4294967296 ⌝ }
+{
+    put_block_0(time);
+    put_scanned(1, FEW_PIXELS, time + 5000);
+    put_scanned(2, FEW_PIXELS, time + 10001);
+}
+
+// Block 2 has a time one millisecond before that of block 1: clock back.
+fn put_clock_back(time: u32)
+    requires { ⌜ time + 100 < 4294967296 ⌝ }
+{
+    put_block_0(time);
+    put_scanned(1, FEW_PIXELS, time + 100);
+    put_scanned(2, FEW_PIXELS, time + 99);
+}
+
+// Block 2 is hit and refused, so that block 3 is not the one expected: broken.
+fn put_broken(time: u32)
+    requires { ⌜ time + 300 < 4294967296 ⌝ }
+{
+    put_block_0(time);
+    put_scanned(1, FEW_PIXELS, time + 100);
+    let second = scanned(2, FEW_PIXELS, time + 200);
+    put_damaged(second, recording::BLOCK, 200, 1, 0);
+    put_scanned(3, FEW_PIXELS, time + 300);
 }
 
 fn main() {
     put_scan();
-    put_block(11, 8, 8040, 0);
-    put_block(11, 6, 10720, 1);
-    put_block(11, 10, 6432, 2);
-    put_block(11, 8, 8040, 3);
-    // A header copy hit, which the other two make good; the field hit; a byte missing; another tag; fewer bytes than a header has.
-    put_damaged(recording::BLOCK, 5, 16, 0);
-    put_damaged(recording::BLOCK, 200, 1, 0);
-    put_damaged(recording::BLOCK, 0, 0, 1);
-    put_damaged(2, 0, 0, 0);
-    put_damaged(recording::BLOCK, 0, 0, 2700);
+    put_fixed(11, 8, 8040, 0, 86400600);
+    put_fixed(11, 6, 10720, 1, 86400700);
+    put_fixed(11, 10, 6432, 2, 86400800);
+    put_fixed(11, 8, 8040, 3, 86400900);
+    put_hits(86401000);
+    put_late(86401500);
+    put_clock_back(86412000);
+    put_broken(86412500);
 }

@@ -9,9 +9,10 @@ use std::process::ExitCode;
 use independent::block::write;
 use independent::check::check_bytes;
 use independent::document::header;
-use independent::inputs::{field, recording, Dice};
+use independent::inputs::{digits, field, recording, tag_at, Dice};
 use independent::recording::list;
 use independent::rows::{c_of_n, id_of_block, LARGEST_N};
+use independent::tags::Tag;
 
 /// A block of a scan of `n` pixels, or of the fixed length.
 fn scanned(number: u8, version: u8, n: usize) -> Vec<u8> {
@@ -96,11 +97,15 @@ fn example() -> Vec<u8> {
     [field(1, &block(3, 2)), field(1, &[0; 89])].concat()
 }
 
-/// What the program `sample` makes: a scan of a hundred pixels, blocks 11, and damaged fields.
+/// What the program `sample` makes, from the midnight that begins 2008 day 61 on: a scan of a hundred pixels over that
+/// midnight; blocks 11; block 3 hit in one copy, hit in its field, a byte short, under another tag, and short of a
+/// header; and scans of one pixel that a watch with a limit of 5,000 ms closes as late, clock back and broken.
 fn sample() -> Vec<u8> {
-    let made = |number: u8, size: u8, c: u16, version: u8| {
+    let midnight = Tag { year: 2008, day: 61, ..Tag::default() }.time();
+    let made = |number: u8, size: u8, c: u16, version: u8, ms: i64| {
         let mut header = header(id_of_block(number), size, version, c);
         header[8] = 1;
+        header[16..24].copy_from_slice(&digits(&tag_at(midnight + ms, false)));
         let words: Vec<u16> = (0..c).map(|k| k % 61).collect();
         let mut dest = vec![0; 32_000];
         let (answer, length) = write(&header, &words, &mut dest);
@@ -108,21 +113,31 @@ fn sample() -> Vec<u8> {
         dest.truncate(length);
         dest
     };
+    let scanned = |number: u8, n: usize, ms: i64| match number {
+        0 => made(0, 8, 8_040, 2, ms),
+        _ => made(number, 10, c_of_n(number, n) as u16, 2, ms),
+    };
     let mut bytes = Vec::new();
     let mut add = |tag: u8, body: &[u8]| bytes.extend(field(tag, body));
-    add(1, &made(0, 8, 8_040, 2));
-    for number in 1..=10 {
-        add(1, &made(number, 10, c_of_n(number, 100) as u16, 2));
+    for number in 0..=10 {
+        add(1, &scanned(number, 100, 100 * number as i64 - 500));
     }
     for (size, c, version) in [(8, 8_040, 0), (6, 10_720, 1), (10, 6_432, 2), (8, 8_040, 3)] {
-        add(1, &made(11, size, c, version));
+        add(1, &made(11, size, c, version, 600 + 100 * version as i64));
     }
-    let third = made(3, 10, 416, 2);
+    let third = scanned(3, 100, 1_000);
     add(1, &with_bit(third.clone(), 5, 16));
     add(1, &with_bit(third.clone(), 200, 1));
     add(1, &third[..third.len() - 1]);
     add(2, &third);
     add(1, &third[..third.len() - 2_700]);
+    for (number, ms) in [(0, 1_500), (1, 6_500), (2, 11_501), (0, 12_000), (1, 12_100), (2, 12_099)] {
+        add(1, &scanned(number, 1, ms));
+    }
+    add(1, &scanned(0, 1, 12_500));
+    add(1, &scanned(1, 1, 12_600));
+    add(1, &with_bit(scanned(2, 1, 12_700), 200, 1));
+    add(1, &scanned(3, 1, 12_800));
     bytes
 }
 
@@ -172,4 +187,32 @@ fn main() -> ExitCode {
 fn usage() -> ExitCode {
     eprintln!("usage: recordings DIR [SEED COUNT]");
     ExitCode::from(2)
+}
+
+#[cfg(test)]
+mod tests {
+    use independent::block::read;
+    use independent::header::meaning;
+    use independent::watch::{begin, offer, Verdict};
+
+    #[test]
+    fn a_watch_over_the_sample_meets_every_verdict() {
+        let mut watch = begin(5_000).1;
+        let mut verdicts = Vec::new();
+        let bytes = super::sample();
+        let mut rest = &bytes[..];
+        while let [tag, high, low, body @ ..] = rest {
+            let (body, behind) = body.split_at(256 * *high as usize + *low as usize);
+            rest = behind;
+            let answer = read(body, &mut [0; 22_000]);
+            if *tag == 1 && answer.number == 0 {
+                let block = meaning(&answer.header).unwrap().block;
+                verdicts.push(offer(&mut watch, block, &answer.header[16..24]));
+            }
+        }
+        use Verdict::*;
+        let whole = [&[Opened][..], &[Kept; 9], &[Complete], &[Stray; 5]].concat();
+        let closed = [Opened, Kept, Late, Opened, Kept, ClockBack, Opened, Kept, Broken];
+        assert_eq!(verdicts, [&whole[..], &closed].concat());
+    }
 }

@@ -6,6 +6,9 @@ use borrow.Author.Needs.{needs}
 use Rattle.sample.proofs.make.Statement.{statement}
 use Rattle.sample.proofs.make.Tie as tie
 
+cast-end : tie.Need-cast-end
+cast-end c = search needs
+
 header-of-requires : tie.Need-header-of-requires
 header-of-requires c κs = search needs
 
@@ -27,7 +30,8 @@ slice-reshare-prefix-write c = search needs
 slice-aggregate-write-2 : tie.Need-slice-aggregate-write-2
 slice-aggregate-write-2 c =
     let put = c .before .before .before .before .before .put-words in
-    sym (length-take-le (c .before .before .before .before .before .before .before .before .before .before .args .words) (put .last .0) (c .before .before .if1 .left))
+    let start = c .before .before .before .before .before .before .before .before .before .before .before in
+    sym (length-take-le (start .args .block .words) (put .last .0) (c .before .before .if1 .left))
 
 write-requires : tie.Need-write-requires
 write-requires c κs = search needs
@@ -45,6 +49,7 @@ pub make-spec : {M : Type 1} → statement M
 make-spec =
     tie.close
     (tie.spec
+    cast-end
     header-of-requires
     put-words-requires
     same-length

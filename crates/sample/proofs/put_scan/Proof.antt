@@ -6,46 +6,31 @@ use Rattle.sample.proofs.put_scan.Statement.{statement}
 use Rattle.sample.proofs.put_scan.Tie as tie
 
 abbrev Inv-loop : tie.InvT-loop
-Inv-loop block₀ block = block ≤ 11
+Inv-loop number₀ number = number ≤ 11
 
 abbrev μ-loop : tie.MeasureT-loop
-μ-loop block₀ block = 11 - block
+μ-loop number₀ number = 11 - number
 
-put-block-requires : tie.Need-put-block-requires Inv-loop μ-loop
-put-block-requires c κs = search needs
-
-add-put-block : tie.Need-add-put-block Inv-loop μ-loop
-add-put-block c = search needs
-
-mul-put-block : tie.Need-mul-put-block Inv-loop μ-loop
-mul-put-block c = search needs
-
-put-block-requires-2 : tie.Need-put-block-requires-2 Inv-loop μ-loop
-put-block-requires-2 c κs = search needs
-
-add-put-block-2 : tie.Need-add-put-block-2 Inv-loop μ-loop
-add-put-block-2 c = search needs
-
-mul-put-block-2 : tie.Need-mul-put-block-2 Inv-loop μ-loop
-mul-put-block-2 c = search needs
-
-put-block-requires-3 : tie.Need-put-block-requires-3 Inv-loop μ-loop
-put-block-requires-3 c κs = search needs
+put-block-0-requires : tie.Need-put-block-0-requires Inv-loop μ-loop
+put-block-0-requires c κs = search needs
 
 loop-holds : tie.Need-loop-holds Inv-loop μ-loop
 loop-holds c = search needs
 
-mul-put-block-3 : tie.Need-mul-put-block-3 Inv-loop μ-loop
-mul-put-block-3 c = search needs
+cast-put-scanned : tie.Need-cast-put-scanned Inv-loop μ-loop
+cast-put-scanned c = search needs
 
-add-put-block-3 : tie.Need-add-put-block-3 Inv-loop μ-loop
-add-put-block-3 c = search needs
+mul-put-scanned : tie.Need-mul-put-scanned Inv-loop μ-loop
+mul-put-scanned c = search needs
 
-put-block-requires-4 : tie.Need-put-block-requires-4 Inv-loop μ-loop
-put-block-requires-4 c κs = search needs
+add-put-scanned : tie.Need-add-put-scanned Inv-loop μ-loop
+add-put-scanned c = search needs
 
-add-block : tie.Need-add-block Inv-loop μ-loop
-add-block c = search needs
+put-scanned-requires : tie.Need-put-scanned-requires Inv-loop μ-loop
+put-scanned-requires c κs = search needs
+
+add-number : tie.Need-add-number Inv-loop μ-loop
+add-number c = search needs
 
 loop-less : tie.Need-loop-less Inv-loop μ-loop
 loop-less c = search needs
@@ -62,18 +47,13 @@ put-scan-spec =
     (tie.spec
     Inv-loop
     μ-loop
-    put-block-requires
-    add-put-block
-    mul-put-block
-    put-block-requires-2
-    add-put-block-2
-    mul-put-block-2
-    put-block-requires-3
+    put-block-0-requires
     loop-holds
-    mul-put-block-3
-    add-put-block-3
-    put-block-requires-4
-    add-block
+    cast-put-scanned
+    mul-put-scanned
+    add-put-scanned
+    put-scanned-requires
+    add-number
     loop-less
     loop-again
     returns)
