@@ -12,17 +12,17 @@ static void print_time(const uint8_t *tag)
     int64_t ms;
 
     unsigned answer = rahmisve_read_tag(tag, RAHMISVE_TAG_BYTES, time);
-    if (answer != RAHMISVE_ACCEPTED) {
+    if (answer != RAHMISVE_ANSWER_ACCEPTED) {
         printf("time: refused, %u\n", answer);
         return;
     }
-    midnight[RAHMISVE_YEAR] = time[RAHMISVE_YEAR];
-    midnight[RAHMISVE_DAY] = time[RAHMISVE_DAY];
+    midnight[RAHMISVE_TIME_YEAR] = time[RAHMISVE_TIME_YEAR];
+    midnight[RAHMISVE_TIME_DAY] = time[RAHMISVE_TIME_DAY];
     rahmisve_write_tag(midnight, begin);
     rahmisve_elapsed(begin, sizeof begin, tag, RAHMISVE_TAG_BYTES, &ms);
-    printf("time: %u day %u, %02u:%02u:%02u.%03u%s, %ld ms after midnight\n", (unsigned)time[RAHMISVE_YEAR], (unsigned)time[RAHMISVE_DAY],
-           (unsigned)time[RAHMISVE_HOUR], (unsigned)time[RAHMISVE_MINUTE], (unsigned)time[RAHMISVE_SECOND],
-           (unsigned)time[RAHMISVE_MILLISECOND], time[RAHMISVE_FLYWHEEL] ? " by flywheel" : "", (long)ms);
+    printf("time: %u day %u, %02u:%02u:%02u.%03u%s, %ld ms after midnight\n", (unsigned)time[RAHMISVE_TIME_YEAR], (unsigned)time[RAHMISVE_TIME_DAY],
+           (unsigned)time[RAHMISVE_TIME_HOUR], (unsigned)time[RAHMISVE_TIME_MINUTE], (unsigned)time[RAHMISVE_TIME_SECOND],
+           (unsigned)time[RAHMISVE_TIME_MILLISECOND], time[RAHMISVE_TIME_FLYWHEEL] ? " by flywheel" : "", (long)ms);
 }
 
 /* The records among the words, each with what it holds and its first pixel, which stands behind 16 words of line documentation. */
@@ -31,7 +31,7 @@ static void print_records(const uint8_t *header, unsigned block, unsigned versio
     for (unsigned k = 1; k <= records; k++) {
         size_t start, length;
         uint8_t channel, detector;
-        if (rahmisve_record(header, RAHMISVE_HEADER_BYTES, count, k, &start, &length) != RAHMISVE_ACCEPTED)
+        if (rahmisve_record(header, RAHMISVE_HEADER_BYTES, count, k, &start, &length) != RAHMISVE_ANSWER_ACCEPTED)
             continue;
         rahmisve_place(block, version, k, &channel, &detector);
         printf("record %u: channel %u, detector %u, %zu words from word %zu, first pixel %u\n", k, channel, detector, length, start,
@@ -43,7 +43,7 @@ int main(int argc, char **argv)
 {
     static uint8_t bytes[RAHMISVE_MOST_BYTES + 1]; /* a byte more, so that a longer file shows as too long */
     static uint16_t words[RAHMISVE_MOST_WORDS];
-    uint8_t header[RAHMISVE_HEADER_BYTES], copies[RAHMISVE_COPIES], block, version, size, records;
+    uint8_t header[RAHMISVE_HEADER_BYTES], copies[RAHMISVE_COPY_MARKS], block, version, size, records;
     size_t length, count, field;
 
     FILE *file = argc > 1 ? fopen(argv[1], "rb") : stdin;
@@ -59,7 +59,7 @@ int main(int argc, char **argv)
     fclose(file);
 
     unsigned answer = rahmisve_read(bytes, length, words, RAHMISVE_MOST_WORDS, header, copies, &count);
-    if (answer != RAHMISVE_ACCEPTED) {
+    if (answer != RAHMISVE_ANSWER_ACCEPTED) {
         printf("refused: %u\n", answer);
         return 1;
     }

@@ -18,14 +18,14 @@ int main(void)
 
     /* The SPS time stands in the header at bytes 16 to 23. */
     answer = rahmisve_write_tag(time, header + 16);
-    if (answer != RAHMISVE_ACCEPTED) {
+    if (answer != RAHMISVE_ANSWER_ACCEPTED) {
         fprintf(stderr, "the time is refused: %u\n", answer);
         return 1;
     }
     for (unsigned i = 0; i < WORDS; i++)
         words[i] = (uint16_t)(100 * (i / RECORD + 1) + i % RECORD);
     answer = rahmisve_write(header, sizeof header, words, WORDS, block, sizeof block, &bytes);
-    if (answer != RAHMISVE_ACCEPTED) {
+    if (answer != RAHMISVE_ANSWER_ACCEPTED) {
         fprintf(stderr, "the block is refused: %u\n", answer);
         return 1;
     }

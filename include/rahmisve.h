@@ -1,12 +1,21 @@
-/* rahmisve.h: GVAR blocks, CDA time tags and the scan watch, from C. This file is the manual.
+/* rahmisve.h: GVAR blocks, recordings of them, CDA time tags and the scan watch, from C. This file is the manual.
  *
  * The archive librahmisve.a holds proved code: for every input whatever, a function below answers what its definition says, reads and
- * writes nothing outside the buffers lent to it, and returns. docs/LINKING.md says how to make the archive and link it.
+ * writes nothing outside the buffers lent to it, and returns. docs/LINKING.md says how to make the archive, how to link it and what it
+ * needs of a machine.
  *
- * ANSWERS. Every function but rahmisve_check_word returns a number: 0, RAHMISVE_ACCEPTED, or the number of a refusal, each named once
- * below. What else belongs to the answer goes to the places that the caller lends for it (`header`, `words`, `start`, ..). They are
- * written on every call: on a refusal with zeros. A room (`room`, `field`) and a watch are written only by an accepted call, and a
- * refusal leaves them as they were, to the bit.
+ * VERSION. RAHMISVE_VERSION is the version of this file, rahmisve_version() that of the archive. Every change of a signature, a size or a
+ * place raises it. Where `rahmisve_version() != RAHMISVE_VERSION` the program was built with the header of another archive, and nothing
+ * else below may be called.
+ *
+ * ANSWERS. A function returns its answer: 0, which is accepted, or the number of a refusal, each named once in the list below. Of several
+ * grounds the first one decides, in the order that stands with the function. Three functions refuse nothing and return something else:
+ * rahmisve_version a version, rahmisve_next_field what it found, rahmisve_check_word a check word. Mind the zeros: answer 0 is accepted,
+ * but verdict 0 of a watch is a refused offer, and found 0 is the end of a recording.
+ *
+ * PLACES AND ROOMS. What else belongs to an answer goes to the places that the caller lends for it: `header`, `word_count`, `start` and
+ * the like. A place is written on every call: on a refusal with zeros. A room, which is a `room` or the `field` that rahmisve_put_words
+ * fills, is written only by an accepted call; a refusal leaves it, and a watch, as it was, to the bit.
  *
  * MEMORY. Everything lent belongs to the caller, before and after. The library keeps no pointer, allocates nothing, keeps nothing
  * between calls, has no variables of its own, does no input or output and does not touch errno. So calls may be made from several
@@ -15,15 +24,16 @@
  * POINTERS. A buffer is a pointer and, behind it, how many elements it has: `block`, `block_length`. Nothing else is read or written.
  * Where the length is 0 the pointer is not followed, and may be NULL. The caller sees to four things, which nothing can check:
  *   - A pointer leads to as many elements as its length says, or as its declaration below says.
- *   - A buffer of bytes may stand at any address. One of uint16_t, and a place of uint32_t, int64_t or size_t, is aligned as the C
- *     compiler aligns that type; storage declared or allocated as such is.
- *   - A place for an answer is always written, so it may not be NULL, not even where the call is refused.
+ *   - A buffer of bytes may stand at any address. One of uint16_t, and a place or row of uint32_t, uint64_t, int64_t or size_t, is aligned
+ *     as the C compiler aligns that type; storage declared or allocated as such is.
+ *   - A place for an answer is always written, so it may not be NULL, not even where the call is refused. Neither may a watch or a time.
  *   - What a call writes may not overlap anything else that is lent to it. What it only reads may overlap: rahmisve_elapsed may be
  *     given one tag twice.
  * They are all that is asked. There is no number, no length and no content that is not allowed.
  *
- * NUMBERS. Words of the specification, blocks' records among them, count from 1 there and here; places in a buffer (`start`) count
- * from 0. Numbers come in as uint32_t so that none is cut to fit: 256 is not block 0 but an unknown block.
+ * NUMBERS. Words of the specification, blocks' records among them, count from 1 there and here; places in a buffer (`start`, `at`) count
+ * from 0. Numbers come in as uint32_t so that none is cut to fit: 256 is not block 0 but an unknown block. C is the count of a block's
+ * words, the ones that are read to the room; what stands in a header is C + 2. A mark is 1 where something is so, else 0.
  */
 #ifndef RAHMISVE_H
 #define RAHMISVE_H
@@ -35,71 +45,92 @@
 extern "C" {
 #endif
 
-/* ---- The numbers of an answer --------------------------------------------------------------------------------------------------- */
+/* ---- Version -------------------------------------------------------------------------------------------------------------------- */
 
-#define RAHMISVE_ACCEPTED 0
-#define RAHMISVE_NO_HEADER 1        /* a block of fewer than 90 bytes; a lent header not of 28 bytes */
-#define RAHMISVE_NO_COPY_PASSES 2   /* none of the three header copies passes its check */
-#define RAHMISVE_COPIES_DIFFER 3    /* two header copies pass and differ */
-#define RAHMISVE_UNKNOWN_BLOCK 4    /* no block has this id; a block number above 11 */
-#define RAHMISVE_UNKNOWN_VERSION 5  /* a version above 3 */
-#define RAHMISVE_WRONG_SIZE 6       /* the block has no words of this size; a size outside 1 to 16 */
-#define RAHMISVE_WRONG_COUNT 7      /* the block cannot have this count of words */
-#define RAHMISVE_WRONG_LENGTH 8     /* not exactly the required number of bytes (reader) or words (writer, parity);
-                                     * a field with too few bits for the words to take out of it */
-#define RAHMISVE_SMALL_ROOM 9       /* less room lent than needed, or fewer words than the header counts */
-#define RAHMISVE_CHECK_DISAGREES 10 /* the block's check word is not that of its field */
-#define RAHMISVE_FILL_NOT_ZERO 11   /* a bit behind the last word is 1 */
-#define RAHMISVE_BAD_TAG 12         /* a bad time tag, or one not of eight bytes; an open watch whose last tag is bad */
-#define RAHMISVE_NO_RECORD 13       /* a block without records, or no such record; an open watch that expects no block 1 to 10 */
-#define RAHMISVE_LARGE_WORD 14      /* a word too large for its size */
-#define RAHMISVE_OTHER_FIELD 15     /* a field of a recording with another tag than 1; no function here answers it */
-#define RAHMISVE_LONG_LIMIT 16      /* a waiting limit above 3,600,000 ms */
-#define RAHMISVE_OFF_BOUNDARY 17    /* the check word is not on a 16-bit boundary of the block: no block is refused so, since
-                                     * every field is a multiple of 16 bits */
+#define RAHMISVE_VERSION 1
 
-/* ---- Sizes ---------------------------------------------------------------------------------------------------------------------- */
+/* The version of the archive that is linked. */
+uint32_t rahmisve_version(void);
 
-#define RAHMISVE_HEADER_BYTES 28     /* a header: the first 28 bytes of a copy, without its check word */
-#define RAHMISVE_COPIES 3            /* header copies in front of a block */
-#define RAHMISVE_AROUND 92           /* bytes of a block around its field: three copies of 30, and the check word */
-#define RAHMISVE_MOST_WORDS 21008    /* words of the longest block: a room of so many holds those of any */
-#define RAHMISVE_MOST_BYTES 26352    /* bytes of the longest block */
-#define RAHMISVE_TAG_BYTES 8         /* a time tag as it is sent */
-#define RAHMISVE_PARITY_WORDS 8040   /* words of a block with parity sections */
-#define RAHMISVE_IMAGER_SECTIONS 4
-#define RAHMISVE_SOUNDER_SECTIONS 2
-#define RAHMISVE_LONGEST_WAIT 3600000 /* the largest waiting limit, in ms */
+/* ---- Answers -------------------------------------------------------------------------------------------------------------------- */
+
+/* The one list of answers: for each its name, its number and a text. The numbers rise from 0 without a gap, so a program makes its own
+ * table of texts by
+ *
+ *     #define TEXT(name, number, text) text,
+ *     static const char *const texts[] = {RAHMISVE_ANSWERS(TEXT)};
+ *
+ * and texts[answer] says what it means. A comment says where a number has more grounds than its text names. */
+#define RAHMISVE_ANSWERS(ANSWER) \
+    ANSWER(ACCEPTED, 0, "accepted") \
+    ANSWER(NO_HEADER, 1, "a block of fewer than 90 bytes, or a header not of 28") \
+    ANSWER(NO_COPY_PASSES, 2, "none of the three header copies passes its check") \
+    ANSWER(COPIES_DIFFER, 3, "two header copies pass and differ") \
+    ANSWER(UNKNOWN_BLOCK, 4, "an unknown block id, or a block number above 11") \
+    ANSWER(UNKNOWN_VERSION, 5, "a version above 3") \
+    ANSWER(WRONG_SIZE, 6, "no words of this size") /* in this block; a size outside 1 to 16, where no block is asked about */ \
+    ANSWER(WRONG_COUNT, 7, "the block cannot have this count of words") \
+    ANSWER(WRONG_LENGTH, 8, "not the required number of bytes or words") /* too few bits, where words are taken out of a field */ \
+    ANSWER(SMALL_ROOM, 9, "too little room, or too few words") /* fewer than C words, where a record is asked for */ \
+    ANSWER(CHECK_DISAGREES, 10, "the check word is not that of the field") \
+    ANSWER(FILL_NOT_ZERO, 11, "a bit behind the last word is 1") \
+    ANSWER(BAD_TAG, 12, "a bad time tag") /* one not of eight bytes too; an open watch whose last tag is bad */ \
+    ANSWER(NO_RECORD, 13, "no such record, or no such expected block") /* an open watch that expects no block 1 to 10 */ \
+    ANSWER(LARGE_WORD, 14, "a word too large for its size") \
+    ANSWER(OTHER_FIELD, 15, "a field of a recording with another tag than 1") \
+    ANSWER(LONG_LIMIT, 16, "a waiting limit above 3,600,000 ms") \
+    ANSWER(OFF_BOUNDARY, 17, "a check word off its 16-bit boundary") /* which no block has: every field is a multiple of 16 bits */
+
+/* RAHMISVE_ANSWER_ACCEPTED, RAHMISVE_ANSWER_NO_HEADER and so on, and how many numbers there are. */
+#define RAHMISVE_CONSTANT(name, number, text) RAHMISVE_ANSWER_##name = number,
+enum { RAHMISVE_ANSWERS(RAHMISVE_CONSTANT) RAHMISVE_ANSWER_NUMBERS };
+#undef RAHMISVE_CONSTANT
 
 /* ---- Blocks --------------------------------------------------------------------------------------------------------------------- */
 
-/* Reads a block: 90 bytes of header copies, the field, 2 bytes of check word, and no more. Accepted, its words stand at the front of
- * the room, which may be longer, and nothing behind them has changed; `header` has the common header, `words` their count, and
- * copies[k] is 1 where header copy k + 1 passed its check, else 0.
- * Refusals, the first that holds: 1, 2, 3, 4, 5, 6, 7, 8, 17, 9, 10, 11. */
+#define RAHMISVE_HEADER_BYTES 28  /* a header: the first 28 bytes of a copy, without its check word */
+#define RAHMISVE_COPY_MARKS 3     /* a mark for each header copy in front of a block */
+#define RAHMISVE_AROUND_BYTES 92  /* bytes of a block around its field: three copies of 30, and the check word */
+#define RAHMISVE_MOST_WORDS 21008 /* words of the longest block: a room of so many holds those of any */
+#define RAHMISVE_MOST_BYTES 26352 /* bytes of the longest block */
+
+/* Places in a header. What stands in the others is not looked at: the writer writes it as it is, the reader gives it back. */
+#define RAHMISVE_HEADER_ID 0      /* the block id: the number of the block, or RAHMISVE_BLOCK_0_ID */
+#define RAHMISVE_HEADER_SIZE 1    /* bits of a word */
+#define RAHMISVE_HEADER_COUNT 2   /* two bytes, the high one first: C + RAHMISVE_EXTRA_WORDS */
+#define RAHMISVE_HEADER_VERSION 7 /* 0 to 3 */
+#define RAHMISVE_HEADER_VALID 8   /* 1 where the data are valid; not looked at either */
+#define RAHMISVE_HEADER_TIME 16   /* the tag of the SPS time, RAHMISVE_TAG_BYTES long; not looked at either */
+#define RAHMISVE_BLOCK_0_ID 240   /* the id of block 0; those of blocks 1 to 11 are their numbers */
+#define RAHMISVE_EXTRA_WORDS 2    /* what a header's count has beyond C, for the check word */
+
+/* Reads a block: 90 bytes of header copies, the field, 2 bytes of check word, and no more. Accepted, its C words stand at the front of
+ * the room, which may be longer, and nothing behind them has changed; `header` has the common header, `word_count` is C, and copies[k] is
+ * the mark of header copy k + 1: whether it passed its check.
+ * Refusals: 1, 2, 3, 4, 5, 6, 7, 8, 17, 9, 10, 11. */
 uint8_t rahmisve_read(const uint8_t *block, size_t block_length, uint16_t *room, size_t room_length,
-                      uint8_t header[RAHMISVE_HEADER_BYTES], uint8_t copies[RAHMISVE_COPIES], size_t *words);
+                      uint8_t header[RAHMISVE_HEADER_BYTES], uint8_t copies[RAHMISVE_COPY_MARKS], size_t *word_count);
 
 /* What a header asks for: the block's number, 0 to 11, its version, the bits of its words, how many detector records it has (0 in
- * blocks 0 and 11), how many words, and how many bytes their field takes; the block has RAHMISVE_AROUND bytes more.
+ * blocks 0 and 11), C, and how many bytes the field of so many words takes; the block has RAHMISVE_AROUND_BYTES more.
  * Refusals: 1, 4, 5, 6, 7. */
 uint8_t rahmisve_plan(const uint8_t *header, size_t header_length, uint8_t *block, uint8_t *version, uint8_t *size, uint8_t *records,
-                      size_t *words, size_t *field);
+                      size_t *word_count, size_t *field_bytes);
 
-/* Writes the block of a header and its words to the front of the room, which may be longer: three equal header copies with their
+/* Writes the block of a header and its C words to the front of the room, which may be longer: three equal header copies with their
  * checks, the field with zeros behind the last word, its check word. `bytes` is the length of the block.
- * In a header byte 0 is the block id (240 for block 0), byte 1 the word size, bytes 2 and 3 the count of words plus two, high byte
- * first, byte 7 the version; the others are written as they are.
  * Refusals: 1, 4, 5, 6, 7, 8, 9, 14. */
 uint8_t rahmisve_write(const uint8_t *header, size_t header_length, const uint16_t *words, size_t words_length, uint8_t *room,
                        size_t room_length, size_t *bytes);
 
 /* ---- Detector records ----------------------------------------------------------------------------------------------------------- */
 
-/* Where a record, from 1, lies in the words that the block with this header was read to, of which there are `words`: `length` of them
- * from `start` on.
+#define RAHMISVE_DOCUMENTATION_WORDS 16 /* words of line documentation at the front of a record; its pixels stand behind them */
+
+/* Where a record, from 1, lies in the words that the block with this header was read to: `length` of them from `start` on.
+ * `word_count` is how many words the caller has there: C, or more, as where it is the whole room. Fewer than C is refusal 9.
  * Refusals: 1, 4, 5, 6, 7, 13, 9. */
-uint8_t rahmisve_record(const uint8_t *header, size_t header_length, size_t words, uint32_t record, size_t *start, size_t *length);
+uint8_t rahmisve_record(const uint8_t *header, size_t header_length, size_t word_count, uint32_t record, size_t *start, size_t *length);
 
 /* Which channel and detector a record, from 1, holds: the fixed placement of an upright spacecraft without co-registration.
  * Refusals: 4, 5, 13. */
@@ -107,29 +138,35 @@ uint8_t rahmisve_place(uint32_t block, uint32_t version, uint32_t record, uint8_
 
 /* ---- Longitudinal parity -------------------------------------------------------------------------------------------------------- */
 
-/* Judges the parity sections of block 1 of the Imager spacelook set: holds[k] is 1 where the parity of section k + 1 holds, else 0.
+#define RAHMISVE_PARITY_WORDS 8040 /* words of a block with parity sections */
+#define RAHMISVE_IMAGER_MARKS 4    /* a mark for each section of the Imager's block */
+#define RAHMISVE_SOUNDER_MARKS 2   /* the same for the Sounder's */
+
+/* Judges the parity sections of block 1 of the Imager spacelook set: holds[k] is the mark of section k + 1: whether its parity holds.
  * Refusals: 8 where there are not 8,040 words, 14 for a word above 255. */
-uint8_t rahmisve_parity_imager(const uint16_t *words, size_t words_length, uint8_t holds[RAHMISVE_IMAGER_SECTIONS]);
+uint8_t rahmisve_parity_imager(const uint16_t *words, size_t words_length, uint8_t holds[RAHMISVE_IMAGER_MARKS]);
 
 /* The same for block 1 of the Sounder spacelook set, which has two sections. */
-uint8_t rahmisve_parity_sounder(const uint16_t *words, size_t words_length, uint8_t holds[RAHMISVE_SOUNDER_SECTIONS]);
+uint8_t rahmisve_parity_sounder(const uint16_t *words, size_t words_length, uint8_t holds[RAHMISVE_SOUNDER_MARKS]);
 
 /* ---- Time tags ------------------------------------------------------------------------------------------------------------------ */
 
-/* A time is seven numbers in a row; these are their places. In a header the tag of the SPS time stands at bytes 16 to 23. */
-#define RAHMISVE_YEAR 0        /* 0 to 9999 */
-#define RAHMISVE_DAY 1         /* of the year, from 1 */
-#define RAHMISVE_HOUR 2
-#define RAHMISVE_MINUTE 3
-#define RAHMISVE_SECOND 4      /* 0 to 59 */
-#define RAHMISVE_MILLISECOND 5
-#define RAHMISVE_FLYWHEEL 6    /* the flywheel mark: 1 where it is on; any number but 0 puts it on */
-#define RAHMISVE_TIME_NUMBERS 7
+#define RAHMISVE_TAG_BYTES 8    /* a time tag as it is sent */
+#define RAHMISVE_TIME_NUMBERS 7 /* a time: seven numbers in a row */
+
+/* Places in a time. */
+#define RAHMISVE_TIME_YEAR 0        /* 0 to 9999 */
+#define RAHMISVE_TIME_DAY 1         /* of the year, from 1 */
+#define RAHMISVE_TIME_HOUR 2        /* 0 to 23 */
+#define RAHMISVE_TIME_MINUTE 3      /* 0 to 59 */
+#define RAHMISVE_TIME_SECOND 4      /* 0 to 59 */
+#define RAHMISVE_TIME_MILLISECOND 5 /* 0 to 999 */
+#define RAHMISVE_TIME_FLYWHEEL 6    /* the flywheel mark: given back as 1 or 0; taken, any number but 0 puts it on */
 
 /* Reads a tag of eight bytes. Refusal: 12. */
 uint8_t rahmisve_read_tag(const uint8_t *tag, size_t tag_length, uint32_t time[RAHMISVE_TIME_NUMBERS]);
 
-/* Writes the tag of a time. Refusal: 12 where a number is out of bounds. */
+/* Writes the tag of a time. Refusal: 12 where a number is out of bounds; `tag` is a place, and has zeros then. */
 uint8_t rahmisve_write_tag(const uint32_t time[RAHMISVE_TIME_NUMBERS], uint8_t tag[RAHMISVE_TAG_BYTES]);
 
 /* The time from one tag to another in milliseconds, negative where the second is earlier. The flywheel mark does not enter it.
@@ -138,36 +175,76 @@ uint8_t rahmisve_elapsed(const uint8_t *from, size_t from_length, const uint8_t 
 
 /* ---- The scan watch ------------------------------------------------------------------------------------------------------------- */
 
-/* A watch is ten numbers in a row that the host keeps; these are their places. The host may read and store them. Any number may stand
- * in any place: one out of bounds is refused by the offer that would use it. */
-#define RAHMISVE_OPEN 0         /* 1 where a scan is open, 0 where the watch is idle; any number but 0 counts as open */
-#define RAHMISVE_EXPECTED 1     /* the next expected block, 1 to 10; not read while idle */
-#define RAHMISVE_LAST 2         /* the last tag, a time of seven numbers (places 2 to 8); not read while idle */
-#define RAHMISVE_LIMIT 9        /* the waiting limit in ms, at most RAHMISVE_LONGEST_WAIT */
-#define RAHMISVE_WATCH_NUMBERS 10
+#define RAHMISVE_WATCH_NUMBERS 10        /* a watch: ten numbers in a row, which the host keeps */
+#define RAHMISVE_LONGEST_WAIT_MS 3600000 /* the largest waiting limit */
 
-/* What an offer did. */
-#define RAHMISVE_REFUSED 0    /* nothing: the number returned says why */
-#define RAHMISVE_STRAY 1      /* a block other than 0 came to an idle watch, which stays as it is */
-#define RAHMISVE_OPENED 2     /* block 0 opened a scan */
-#define RAHMISVE_KEPT 3       /* the expected block came in time */
-#define RAHMISVE_CLOCK_BACK 4 /* closed: the tag is earlier than the last one */
-#define RAHMISVE_LATE 5       /* closed: the wait was longer than the limit */
-#define RAHMISVE_BROKEN 6     /* closed: not the expected block */
-#define RAHMISVE_COMPLETE 7   /* closed: block 10, and the scan is complete */
+/* Places in a watch. The host may read, copy and store them. Any number may stand in any place: one out of bounds is refused by the offer
+ * that would use it. Beginning, and every closing that opens no new scan, leave zeros in the expected block and the last tag. */
+#define RAHMISVE_WATCH_OPEN 0     /* 1 where a scan is open, 0 where the watch is idle; any number but 0 counts as open */
+#define RAHMISVE_WATCH_EXPECTED 1 /* the next expected block, 1 to 10; not read while idle */
+#define RAHMISVE_WATCH_LAST 2     /* the last tag, a time of seven numbers (places 2 to 8); not read while idle */
+#define RAHMISVE_WATCH_LIMIT 9    /* the waiting limit in ms, at most RAHMISVE_LONGEST_WAIT_MS */
 
-/* Begins an idle watch with a waiting limit in ms. Refusal: 16, and the watch is as it was. */
+/* The verdict: what an offer did. */
+#define RAHMISVE_VERDICT_REFUSED 0    /* nothing: the answer says why */
+#define RAHMISVE_VERDICT_STRAY 1      /* nothing: a block other than 0 came to an idle watch; the answer is accepted */
+#define RAHMISVE_VERDICT_OPENED 2     /* block 0 opened a scan */
+#define RAHMISVE_VERDICT_KEPT 3       /* the expected block came in time */
+#define RAHMISVE_VERDICT_CLOCK_BACK 4 /* closed: the tag is earlier than the last one */
+#define RAHMISVE_VERDICT_LATE 5       /* closed: the wait was longer than the limit */
+#define RAHMISVE_VERDICT_BROKEN 6     /* closed: not the expected block */
+#define RAHMISVE_VERDICT_COMPLETE 7   /* closed: block 10, and the scan is complete */
+
+/* Begins an idle watch with a waiting limit in ms. Refusal: 16, and the watch is not written. */
 uint8_t rahmisve_watch_begin(uint32_t limit, uint32_t watch[RAHMISVE_WATCH_NUMBERS]);
 
 /* Offers a block and the bytes of its tag. `verdict` says what that did. A closing offer of block 0 also opens a new scan, so look at
- * watch[RAHMISVE_OPEN]; after any other closing the watch is idle. Refused, and as a stray, the watch is as it was.
+ * watch[RAHMISVE_WATCH_OPEN]; after any other closing the watch is idle.
+ * Where the offer is refused, and where it is a stray, the watch is only read: it may stand in write-protected memory then, and other
+ * threads may read it meanwhile.
  * Refusals: 16, 13, 12 for the watch, then 4 for the block, 12 for its tag. */
 uint8_t rahmisve_watch_offer(uint32_t watch[RAHMISVE_WATCH_NUMBERS], uint32_t block, const uint8_t *tag, size_t tag_length,
                              uint8_t *verdict);
 
+/* ---- Recordings ----------------------------------------------------------------------------------------------------------------- */
+
+/* A recording is fields, one after the other: a tag of one byte, the length of the body in two, the high one first, and the body. */
+#define RAHMISVE_FRONT_BYTES 3     /* tag and length, in front of a body */
+#define RAHMISVE_FIELD_BYTES 65538 /* the longest field with its front: a buffer of so many bytes is enough to read any recording */
+#define RAHMISVE_LINE_BYTES 105    /* no line of the listing is longer: a room of so many bytes holds any */
+#define RAHMISVE_BLOCK_FIELD 1     /* the tag of a field that holds a block */
+
+/* What stands in a recording. */
+#define RAHMISVE_FOUND_END 0   /* nothing more */
+#define RAHMISVE_FOUND_FIELD 1 /* a whole field */
+#define RAHMISVE_FOUND_CUT 2   /* the recording stops inside a field */
+
+/* What stands in a recording from byte `at` on, which may lie beyond its end. Of a whole field `tag` is its tag, `start` where its body
+ * starts and `length` how long that is; the next field is at start + length. Where there is none they are zeros.
+ * Where only a part of a recording is in memory, END and CUT mean that more of it is needed: examples/watch.c goes on with it.
+ * It refuses nothing, and returns what it found. */
+uint8_t rahmisve_next_field(const uint8_t *recording, size_t recording_length, size_t at, uint8_t *tag, size_t *start, size_t *length);
+
+/* The listing's line of the field behind `before` complete ones. `seq` is the field's number, before + 1 (or `before`, where no number is
+ * larger), and the one place that is not zero on a refusal. Accepted, the body was read as by rahmisve_read, with its words in the room;
+ * `block`, `version` and `word_count` are what its header says, which rahmisve_read gives whole.
+ * Refusals: 15 where the tag is not RAHMISVE_BLOCK_FIELD, then those of rahmisve_read. */
+uint8_t rahmisve_line(uint64_t before, uint32_t tag, const uint8_t *body, size_t body_length, uint16_t *room, size_t room_length,
+                      uint64_t *seq, uint8_t *block, uint8_t *version, size_t *word_count);
+
+/* The texts of the listing, each a line with its LF and no NUL, to the front of the room, which may be longer; `bytes` is its length.
+ * The first line names the columns. The line of a field has the five numbers that rahmisve_line gives; where the answer is not 0, dashes
+ * stand for three of them. The last line says `cut` where that is not 0, else `end`, and how many complete fields there were. A block, a
+ * version or an answer above 255 counts as 255.
+ * Refusal: 9. */
+uint8_t rahmisve_first_text(uint8_t *room, size_t room_length, size_t *bytes);
+uint8_t rahmisve_line_text(uint64_t seq, uint32_t block, uint32_t version, size_t word_count, uint32_t answer, uint8_t *room,
+                           size_t room_length, size_t *bytes);
+uint8_t rahmisve_last_text(uint32_t cut, uint64_t fields, uint8_t *room, size_t room_length, size_t *bytes);
+
 /* ---- What a block is made of ---------------------------------------------------------------------------------------------------- */
 
-/* The check word of a message, which follows it high byte first. There is no refusal: the answer is the check word. */
+/* The check word of a message, which follows it high byte first. It refuses nothing, and returns the check word. */
 uint16_t rahmisve_check_word(const uint8_t *message, size_t message_length);
 
 /* Takes the first `count` words of `size` bits, 1 to 16, out of a field, to the front of the room.

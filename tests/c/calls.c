@@ -23,7 +23,7 @@ static void told(const char *what)
 
 /* ---- the format once more, plain and slow --------------------------------------------------------------------------------------- */
 
-#define MOST_FIELD (RAHMISVE_MOST_BYTES - RAHMISVE_AROUND) /* bytes of the longest field */
+#define MOST_FIELD (RAHMISVE_MOST_BYTES - RAHMISVE_AROUND_BYTES) /* bytes of the longest field */
 
 static unsigned crc(const uint8_t *bytes, size_t n)
 {
@@ -148,14 +148,14 @@ static void words_of_a_field(void)
     told("take_words: the printed examples, and none out of nothing");
     uint16_t was[6];
     memcpy(was, room, sizeof room);
-    IS(rahmisve_take_words(tens, 5, 0, 1, room, 6) == RAHMISVE_WRONG_SIZE);
-    IS(rahmisve_take_words(tens, 5, 17, 1, room, 6) == RAHMISVE_WRONG_SIZE);
-    IS(rahmisve_take_words(tens, 5, 256 + 10, 1, room, 6) == RAHMISVE_WRONG_SIZE);
-    IS(rahmisve_take_words(tens, 5, 10, 5, room, 6) == RAHMISVE_WRONG_LENGTH);
-    IS(rahmisve_take_words(tens, 5, 10, (size_t)-1, room, 6) == RAHMISVE_WRONG_LENGTH);
-    IS(rahmisve_take_words(NULL, 0, 1, 1, room, 6) == RAHMISVE_WRONG_LENGTH);
-    IS(rahmisve_take_words(tens, 5, 10, 4, room, 3) == RAHMISVE_SMALL_ROOM);
-    IS(rahmisve_take_words(tens, 5, 10, 4, NULL, 0) == RAHMISVE_SMALL_ROOM);
+    IS(rahmisve_take_words(tens, 5, 0, 1, room, 6) == RAHMISVE_ANSWER_WRONG_SIZE);
+    IS(rahmisve_take_words(tens, 5, 17, 1, room, 6) == RAHMISVE_ANSWER_WRONG_SIZE);
+    IS(rahmisve_take_words(tens, 5, 256 + 10, 1, room, 6) == RAHMISVE_ANSWER_WRONG_SIZE);
+    IS(rahmisve_take_words(tens, 5, 10, 5, room, 6) == RAHMISVE_ANSWER_WRONG_LENGTH);
+    IS(rahmisve_take_words(tens, 5, 10, (size_t)-1, room, 6) == RAHMISVE_ANSWER_WRONG_LENGTH);
+    IS(rahmisve_take_words(NULL, 0, 1, 1, room, 6) == RAHMISVE_ANSWER_WRONG_LENGTH);
+    IS(rahmisve_take_words(tens, 5, 10, 4, room, 3) == RAHMISVE_ANSWER_SMALL_ROOM);
+    IS(rahmisve_take_words(tens, 5, 10, 4, NULL, 0) == RAHMISVE_ANSWER_SMALL_ROOM);
     IS(memcmp(was, room, sizeof room) == 0);
     told("take_words: its refusals leave the room");
 
@@ -170,11 +170,11 @@ static void words_of_a_field(void)
     uint8_t kept[9];
     memcpy(kept, field, sizeof field);
     static const uint16_t large[] = {1, 1024};
-    IS(rahmisve_put_words(ws, 4, 0, field, 9) == RAHMISVE_WRONG_SIZE);
-    IS(rahmisve_put_words(ws, 4, 256 + 10, field, 9) == RAHMISVE_WRONG_SIZE);
-    IS(rahmisve_put_words(ws, 4, 10, field, 4) == RAHMISVE_SMALL_ROOM);
-    IS(rahmisve_put_words(ws, 4, 10, NULL, 0) == RAHMISVE_SMALL_ROOM);
-    IS(rahmisve_put_words(large, 2, 10, field, 9) == RAHMISVE_LARGE_WORD);
+    IS(rahmisve_put_words(ws, 4, 0, field, 9) == RAHMISVE_ANSWER_WRONG_SIZE);
+    IS(rahmisve_put_words(ws, 4, 256 + 10, field, 9) == RAHMISVE_ANSWER_WRONG_SIZE);
+    IS(rahmisve_put_words(ws, 4, 10, field, 4) == RAHMISVE_ANSWER_SMALL_ROOM);
+    IS(rahmisve_put_words(ws, 4, 10, NULL, 0) == RAHMISVE_ANSWER_SMALL_ROOM);
+    IS(rahmisve_put_words(large, 2, 10, field, 9) == RAHMISVE_ANSWER_LARGE_WORD);
     IS(memcmp(kept, field, sizeof field) == 0);
     told("put_words: its refusals leave the field");
 }
@@ -256,24 +256,24 @@ static void refused_by_the_writer(void)
     memset(h, 0, sizeof h);
     head(h, 1, 10, 68, 2);
     stir_to(words_here, 69, 10);
-    not_written(RAHMISVE_NO_HEADER, NULL, 0, words_here, 68, 2772);
-    not_written(RAHMISVE_NO_HEADER, h, 27, words_here, 68, 2772);
-    not_written(RAHMISVE_NO_HEADER, h, 29, words_here, 68, 2772);
-    not_written(RAHMISVE_WRONG_LENGTH, h, 28, NULL, 0, 2772);
-    not_written(RAHMISVE_WRONG_LENGTH, h, 28, words_here, 67, 2772);
-    not_written(RAHMISVE_WRONG_LENGTH, h, 28, words_here, 69, 2772);
-    not_written(RAHMISVE_SMALL_ROOM, h, 28, words_here, 68, 2771);
-    not_written(RAHMISVE_SMALL_ROOM, h, 28, words_here, 68, 0);
+    not_written(RAHMISVE_ANSWER_NO_HEADER, NULL, 0, words_here, 68, 2772);
+    not_written(RAHMISVE_ANSWER_NO_HEADER, h, 27, words_here, 68, 2772);
+    not_written(RAHMISVE_ANSWER_NO_HEADER, h, 29, words_here, 68, 2772);
+    not_written(RAHMISVE_ANSWER_WRONG_LENGTH, h, 28, NULL, 0, 2772);
+    not_written(RAHMISVE_ANSWER_WRONG_LENGTH, h, 28, words_here, 67, 2772);
+    not_written(RAHMISVE_ANSWER_WRONG_LENGTH, h, 28, words_here, 69, 2772);
+    not_written(RAHMISVE_ANSWER_SMALL_ROOM, h, 28, words_here, 68, 2771);
+    not_written(RAHMISVE_ANSWER_SMALL_ROOM, h, 28, words_here, 68, 0);
     words_here[67] = 1024;
-    not_written(RAHMISVE_LARGE_WORD, h, 28, words_here, 68, 2772);
+    not_written(RAHMISVE_ANSWER_LARGE_WORD, h, 28, words_here, 68, 2772);
     head(h, 12, 10, 68, 2);
-    not_written(RAHMISVE_UNKNOWN_BLOCK, h, 28, words_here, 68, 2772);
+    not_written(RAHMISVE_ANSWER_UNKNOWN_BLOCK, h, 28, words_here, 68, 2772);
     head(h, 1, 10, 68, 4);
-    not_written(RAHMISVE_UNKNOWN_VERSION, h, 28, words_here, 68, 2772);
+    not_written(RAHMISVE_ANSWER_UNKNOWN_VERSION, h, 28, words_here, 68, 2772);
     head(h, 1, 8, 68, 2);
-    not_written(RAHMISVE_WRONG_SIZE, h, 28, words_here, 68, 2772);
+    not_written(RAHMISVE_ANSWER_WRONG_SIZE, h, 28, words_here, 68, 2772);
     head(h, 1, 10, 64, 2);
-    not_written(RAHMISVE_WRONG_COUNT, h, 28, words_here, 64, 2772);
+    not_written(RAHMISVE_ANSWER_WRONG_COUNT, h, 28, words_here, 64, 2772);
     told("write: its refusals leave the room and count no bytes");
 }
 
@@ -325,30 +325,30 @@ static void copies_that_pass(void)
 static void refused_by_the_reader(void)
 {
     uint8_t *block = a_block();
-    not_read(RAHMISVE_NO_HEADER, 0, 0);
-    not_read(RAHMISVE_NO_HEADER, 89, 68);
-    not_read(RAHMISVE_WRONG_LENGTH, 90, 68);
-    not_read(RAHMISVE_WRONG_LENGTH, 2771, 68);
-    not_read(RAHMISVE_WRONG_LENGTH, 2773, 68);
-    not_read(RAHMISVE_SMALL_ROOM, 2772, 67);
-    not_read(RAHMISVE_SMALL_ROOM, 2772, 0);
+    not_read(RAHMISVE_ANSWER_NO_HEADER, 0, 0);
+    not_read(RAHMISVE_ANSWER_NO_HEADER, 89, 68);
+    not_read(RAHMISVE_ANSWER_WRONG_LENGTH, 90, 68);
+    not_read(RAHMISVE_ANSWER_WRONG_LENGTH, 2771, 68);
+    not_read(RAHMISVE_ANSWER_WRONG_LENGTH, 2773, 68);
+    not_read(RAHMISVE_ANSWER_SMALL_ROOM, 2772, 67);
+    not_read(RAHMISVE_ANSWER_SMALL_ROOM, 2772, 0);
     block[90 + 2679] ^= 1;
-    not_read(RAHMISVE_CHECK_DISAGREES, 2772, 68);
+    not_read(RAHMISVE_ANSWER_CHECK_DISAGREES, 2772, 68);
     seal(block + 90, 2680);
-    not_read(RAHMISVE_FILL_NOT_ZERO, 2772, 68);
+    not_read(RAHMISVE_ANSWER_FILL_NOT_ZERO, 2772, 68);
     block = a_block();
     block[31] ^= 1;
     seal(block + 30, 28);
-    not_read(RAHMISVE_COPIES_DIFFER, 2772, 68);
+    not_read(RAHMISVE_ANSWER_COPIES_DIFFER, 2772, 68);
     block = a_block();
     block[29] ^= 1;
     block[59] ^= 1;
     block[89] ^= 1;
-    not_read(RAHMISVE_NO_COPY_PASSES, 2772, 68);
+    not_read(RAHMISVE_ANSWER_NO_COPY_PASSES, 2772, 68);
     static const unsigned wrong[][5] = {
-        {RAHMISVE_UNKNOWN_BLOCK, 0, 10, 68, 2},   {RAHMISVE_UNKNOWN_BLOCK, 15, 10, 68, 2}, {RAHMISVE_UNKNOWN_VERSION, 1, 10, 68, 4},
-        {RAHMISVE_WRONG_SIZE, 1, 8, 68, 2},       {RAHMISVE_WRONG_COUNT, 1, 10, 64, 2},    {RAHMISVE_WRONG_COUNT, 1, 10, RAHMISVE_MOST_WORDS + 4, 2},
-        {RAHMISVE_WRONG_COUNT, 1, 10, 65535, 2},
+        {RAHMISVE_ANSWER_UNKNOWN_BLOCK, 0, 10, 68, 2},   {RAHMISVE_ANSWER_UNKNOWN_BLOCK, 15, 10, 68, 2}, {RAHMISVE_ANSWER_UNKNOWN_VERSION, 1, 10, 68, 4},
+        {RAHMISVE_ANSWER_WRONG_SIZE, 1, 8, 68, 2},       {RAHMISVE_ANSWER_WRONG_COUNT, 1, 10, 64, 2},    {RAHMISVE_ANSWER_WRONG_COUNT, 1, 10, RAHMISVE_MOST_WORDS + 4, 2},
+        {RAHMISVE_ANSWER_WRONG_COUNT, 1, 10, 65535, 2},
     };
     for (size_t i = 0; i < sizeof wrong / sizeof *wrong; i++) {
         block = a_block();
@@ -387,17 +387,17 @@ static void plans(void)
     head(h, 11, 6, 10720, 0);
     planned(h, 28, 0, 11, 0, 6, 0, 10720, 8040);
     told("plan: each number in its place");
-    planned(NULL, 0, RAHMISVE_NO_HEADER, 0, 0, 0, 0, 0, 0);
-    planned(h, 27, RAHMISVE_NO_HEADER, 0, 0, 0, 0, 0, 0);
-    planned(h, 29, RAHMISVE_NO_HEADER, 0, 0, 0, 0, 0, 0);
+    planned(NULL, 0, RAHMISVE_ANSWER_NO_HEADER, 0, 0, 0, 0, 0, 0);
+    planned(h, 27, RAHMISVE_ANSWER_NO_HEADER, 0, 0, 0, 0, 0, 0);
+    planned(h, 29, RAHMISVE_ANSWER_NO_HEADER, 0, 0, 0, 0, 0, 0);
     head(h, 255, 6, 10720, 0);
-    planned(h, 28, RAHMISVE_UNKNOWN_BLOCK, 0, 0, 0, 0, 0, 0);
+    planned(h, 28, RAHMISVE_ANSWER_UNKNOWN_BLOCK, 0, 0, 0, 0, 0, 0);
     head(h, 11, 6, 10720, 255);
-    planned(h, 28, RAHMISVE_UNKNOWN_VERSION, 0, 0, 0, 0, 0, 0);
+    planned(h, 28, RAHMISVE_ANSWER_UNKNOWN_VERSION, 0, 0, 0, 0, 0, 0);
     head(h, 11, 7, 10720, 0);
-    planned(h, 28, RAHMISVE_WRONG_SIZE, 0, 0, 0, 0, 0, 0);
+    planned(h, 28, RAHMISVE_ANSWER_WRONG_SIZE, 0, 0, 0, 0, 0, 0);
     head(h, 11, 8, 10720, 0);
-    planned(h, 28, RAHMISVE_WRONG_COUNT, 0, 0, 0, 0, 0, 0);
+    planned(h, 28, RAHMISVE_ANSWER_WRONG_COUNT, 0, 0, 0, 0, 0, 0);
     told("plan: its refusals give zeros");
 }
 
@@ -422,19 +422,19 @@ static void record(void)
     head(h, 2, 10, 54, 2);
     located(h, 28, 60, 3, 0, 36, 18);
     told("record: where each lies, with more words lent than a number of 32 bits holds");
-    located(h, 28, 53, 3, RAHMISVE_SMALL_ROOM, 0, 0);
-    located(h, 28, 0, 3, RAHMISVE_SMALL_ROOM, 0, 0);
-    located(h, 28, 54, 0, RAHMISVE_NO_RECORD, 0, 0);
-    located(h, 28, 54, 4, RAHMISVE_NO_RECORD, 0, 0);
-    located(h, 28, 54, 256 + 1, RAHMISVE_NO_RECORD, 0, 0);
-    located(h, 28, 54, 65536 + 1, RAHMISVE_NO_RECORD, 0, 0);
-    located(h, 28, 54, UINT32_MAX, RAHMISVE_NO_RECORD, 0, 0);
-    located(h, 27, 54, 1, RAHMISVE_NO_HEADER, 0, 0);
-    located(NULL, 0, 54, 1, RAHMISVE_NO_HEADER, 0, 0);
+    located(h, 28, 53, 3, RAHMISVE_ANSWER_SMALL_ROOM, 0, 0);
+    located(h, 28, 0, 3, RAHMISVE_ANSWER_SMALL_ROOM, 0, 0);
+    located(h, 28, 54, 0, RAHMISVE_ANSWER_NO_RECORD, 0, 0);
+    located(h, 28, 54, 4, RAHMISVE_ANSWER_NO_RECORD, 0, 0);
+    located(h, 28, 54, 256 + 1, RAHMISVE_ANSWER_NO_RECORD, 0, 0);
+    located(h, 28, 54, 65536 + 1, RAHMISVE_ANSWER_NO_RECORD, 0, 0);
+    located(h, 28, 54, UINT32_MAX, RAHMISVE_ANSWER_NO_RECORD, 0, 0);
+    located(h, 27, 54, 1, RAHMISVE_ANSWER_NO_HEADER, 0, 0);
+    located(NULL, 0, 54, 1, RAHMISVE_ANSWER_NO_HEADER, 0, 0);
     head(h, 240, 8, 8040, 2);
-    located(h, 28, 8040, 1, RAHMISVE_NO_RECORD, 0, 0);
+    located(h, 28, 8040, 1, RAHMISVE_ANSWER_NO_RECORD, 0, 0);
     head(h, 2, 10, 55, 2);
-    located(h, 28, 55, 1, RAHMISVE_WRONG_COUNT, 0, 0);
+    located(h, 28, 55, 1, RAHMISVE_ANSWER_WRONG_COUNT, 0, 0);
     told("record: its refusals give an empty part");
 }
 
@@ -456,18 +456,18 @@ static void place(void)
     placed(3, 0, 1, 0, 1, 5);
     placed(10, 3, 1, 0, 1, 4);
     told("place: channel and detector, by block, version and record");
-    placed(12, 9, 9, RAHMISVE_UNKNOWN_BLOCK, 0, 0);
-    placed(256 + 1, 0, 1, RAHMISVE_UNKNOWN_BLOCK, 0, 0);
-    placed(65536 + 1, 0, 1, RAHMISVE_UNKNOWN_BLOCK, 0, 0);
-    placed(1, 4, 9, RAHMISVE_UNKNOWN_VERSION, 0, 0);
-    placed(1, 256, 1, RAHMISVE_UNKNOWN_VERSION, 0, 0);
-    placed(1, 65536, 1, RAHMISVE_UNKNOWN_VERSION, 0, 0);
-    placed(1, 0, 0, RAHMISVE_NO_RECORD, 0, 0);
-    placed(1, 0, 5, RAHMISVE_NO_RECORD, 0, 0);
-    placed(1, 0, 256 + 1, RAHMISVE_NO_RECORD, 0, 0);
-    placed(1, 0, UINT32_MAX, RAHMISVE_NO_RECORD, 0, 0);
-    placed(0, 0, 1, RAHMISVE_NO_RECORD, 0, 0);
-    placed(11, 0, 1, RAHMISVE_NO_RECORD, 0, 0);
+    placed(12, 9, 9, RAHMISVE_ANSWER_UNKNOWN_BLOCK, 0, 0);
+    placed(256 + 1, 0, 1, RAHMISVE_ANSWER_UNKNOWN_BLOCK, 0, 0);
+    placed(65536 + 1, 0, 1, RAHMISVE_ANSWER_UNKNOWN_BLOCK, 0, 0);
+    placed(1, 4, 9, RAHMISVE_ANSWER_UNKNOWN_VERSION, 0, 0);
+    placed(1, 256, 1, RAHMISVE_ANSWER_UNKNOWN_VERSION, 0, 0);
+    placed(1, 65536, 1, RAHMISVE_ANSWER_UNKNOWN_VERSION, 0, 0);
+    placed(1, 0, 0, RAHMISVE_ANSWER_NO_RECORD, 0, 0);
+    placed(1, 0, 5, RAHMISVE_ANSWER_NO_RECORD, 0, 0);
+    placed(1, 0, 256 + 1, RAHMISVE_ANSWER_NO_RECORD, 0, 0);
+    placed(1, 0, UINT32_MAX, RAHMISVE_ANSWER_NO_RECORD, 0, 0);
+    placed(0, 0, 1, RAHMISVE_ANSWER_NO_RECORD, 0, 0);
+    placed(11, 0, 1, RAHMISVE_ANSWER_NO_RECORD, 0, 0);
     told("place: its refusals, of numbers too large for a byte too");
 }
 
@@ -502,14 +502,14 @@ static void sections(layout judge, int count, const int table[][3], const char *
     memcpy(was_words, words_here, sizeof was_words);
     for (size_t n = 8039; n <= 8041; n += 2) {
         fresh();
-        IS(judge(words, n, at.holds + 1) == RAHMISVE_WRONG_LENGTH && zeros(at.holds + 1, (size_t)count) && at.holds[count + 1] == 0xFF);
+        IS(judge(words, n, at.holds + 1) == RAHMISVE_ANSWER_WRONG_LENGTH && zeros(at.holds + 1, (size_t)count) && at.holds[count + 1] == 0xFF);
     }
     fresh();
-    IS(judge(NULL, 0, at.holds + 1) == RAHMISVE_WRONG_LENGTH && zeros(at.holds + 1, (size_t)count));
+    IS(judge(NULL, 0, at.holds + 1) == RAHMISVE_ANSWER_WRONG_LENGTH && zeros(at.holds + 1, (size_t)count));
     IS(memcmp(was_words, words_here, sizeof was_words) == 0);
     words[8039] = 256;
     fresh();
-    IS(judge(words, 8040, at.holds + 1) == RAHMISVE_LARGE_WORD && zeros(at.holds + 1, (size_t)count) && at.holds[count + 1] == 0xFF);
+    IS(judge(words, 8040, at.holds + 1) == RAHMISVE_ANSWER_LARGE_WORD && zeros(at.holds + 1, (size_t)count) && at.holds[count + 1] == 0xFF);
     told(refused_line);
 }
 
@@ -534,8 +534,8 @@ static void read_tag(void)
     fresh();
     IS(rahmisve_read_tag(marked_tag, 8, at.time + 1) == 0 && memcmp(at.time + 1, marked_time, 28) == 0);
     IS(ones(at.time, 4) && ones(at.time + 8, 4));
-    IS(at.time[1 + RAHMISVE_YEAR] == 1987 && at.time[1 + RAHMISVE_DAY] == 234 && at.time[1 + RAHMISVE_HOUR] == 21);
-    IS(at.time[1 + RAHMISVE_MINUTE] == 43 && at.time[1 + RAHMISVE_SECOND] == 56 && at.time[1 + RAHMISVE_MILLISECOND] == 789);
+    IS(at.time[1 + RAHMISVE_TIME_YEAR] == 1987 && at.time[1 + RAHMISVE_TIME_DAY] == 234 && at.time[1 + RAHMISVE_TIME_HOUR] == 21);
+    IS(at.time[1 + RAHMISVE_TIME_MINUTE] == 43 && at.time[1 + RAHMISVE_TIME_SECOND] == 56 && at.time[1 + RAHMISVE_TIME_MILLISECOND] == 789);
     IS(rahmisve_read_tag(day_60, 8, at.time + 1) == 0 && memcmp(at.time + 1, time_60, 28) == 0);
     told("read_tag: seven numbers, each in its place");
     uint8_t bad[8];
@@ -544,11 +544,11 @@ static void read_tag(void)
     static const size_t lengths[] = {7, 9, 0};
     for (int i = 0; i < 3; i++) {
         fresh();
-        IS(rahmisve_read_tag(lengths[i] ? day_60 : NULL, lengths[i], at.time + 1) == RAHMISVE_BAD_TAG);
+        IS(rahmisve_read_tag(lengths[i] ? day_60 : NULL, lengths[i], at.time + 1) == RAHMISVE_ANSWER_BAD_TAG);
         IS(zeros(at.time + 1, 28) && ones(at.time, 4) && ones(at.time + 8, 4));
     }
     fresh();
-    IS(rahmisve_read_tag(bad, 8, at.time + 1) == RAHMISVE_BAD_TAG && zeros(at.time + 1, 28));
+    IS(rahmisve_read_tag(bad, 8, at.time + 1) == RAHMISVE_ANSWER_BAD_TAG && zeros(at.time + 1, 28));
     told("read_tag: its refusal gives zeros");
 }
 
@@ -561,7 +561,7 @@ static void write_tag(void)
     for (int i = 0; i < 4; i++) {
         uint32_t t[7];
         memcpy(t, marked_time, sizeof t);
-        t[RAHMISVE_FLYWHEEL] = marks[i];
+        t[RAHMISVE_TIME_FLYWHEEL] = marks[i];
         fresh();
         IS(rahmisve_write_tag(t, at.tag + 1) == 0 && memcmp(at.tag + 1, marked_tag, 8) == 0);
     }
@@ -573,10 +573,10 @@ static void write_tag(void)
             memcpy(t, marked_time, sizeof t);
             t[place] = way == 0 ? over[place] : way == 1 ? t[place] + 256u * 256u : way == 2 ? t[place] | 0x80000000u : 0xFFFFFFFFu;
             fresh();
-            IS(rahmisve_write_tag(t, at.tag + 1) == RAHMISVE_BAD_TAG && zeros(at.tag + 1, 8) && at.tag[0] == 0xFF && at.tag[9] == 0xFF);
+            IS(rahmisve_write_tag(t, at.tag + 1) == RAHMISVE_ANSWER_BAD_TAG && zeros(at.tag + 1, 8) && at.tag[0] == 0xFF && at.tag[9] == 0xFF);
             if (place >= 2 && place <= 4) {
                 t[place] = marked_time[place] + 256;
-                IS(rahmisve_write_tag(t, at.tag + 1) == RAHMISVE_BAD_TAG);
+                IS(rahmisve_write_tag(t, at.tag + 1) == RAHMISVE_ANSWER_BAD_TAG);
             }
         }
     told("write_tag: its refusals, of numbers too large for any tag too, give zeros");
@@ -598,7 +598,7 @@ static void elapsed(void)
     static const size_t lengths[][2] = {{7, 8}, {8, 7}, {9, 8}, {0, 8}, {8, 0}, {0, 0}};
     for (int i = 0; i < 6; i++) {
         fresh();
-        IS(rahmisve_elapsed(lengths[i][0] ? day_60 : NULL, lengths[i][0], lengths[i][1] ? day_61 : NULL, lengths[i][1], &at.ms[1]) == RAHMISVE_BAD_TAG);
+        IS(rahmisve_elapsed(lengths[i][0] ? day_60 : NULL, lengths[i][0], lengths[i][1] ? day_61 : NULL, lengths[i][1], &at.ms[1]) == RAHMISVE_ANSWER_BAD_TAG);
         IS(at.ms[0] == -1 && at.ms[1] == 0 && at.ms[2] == -1);
     }
     told("elapsed: its refusals give zero");
@@ -624,8 +624,8 @@ static void goes(uint32_t block, const uint8_t *tag, unsigned verdict, uint32_t 
     if (open)
         IS(rahmisve_read_tag(tag, 8, time) == 0);
     IS(offered(block, tag, 8) == 0 && at.byte[1] == verdict);
-    IS(watch[RAHMISVE_OPEN] == open && watch[RAHMISVE_EXPECTED] == expected && watch[RAHMISVE_LIMIT] == limit);
-    IS(memcmp(watch + RAHMISVE_LAST, time, 28) == 0);
+    IS(watch[RAHMISVE_WATCH_OPEN] == open && watch[RAHMISVE_WATCH_EXPECTED] == expected && watch[RAHMISVE_WATCH_LIMIT] == limit);
+    IS(memcmp(watch + RAHMISVE_WATCH_LAST, time, 28) == 0);
 }
 
 /* An offer that leaves the watch as it is. */
@@ -639,10 +639,10 @@ static void stays(unsigned number, unsigned verdict, uint32_t block, const uint8
 
 static void lent(uint32_t open, uint32_t expected, const uint32_t *time, uint32_t limit)
 {
-    watch[RAHMISVE_OPEN] = open;
-    watch[RAHMISVE_EXPECTED] = expected;
-    memcpy(watch + RAHMISVE_LAST, time, 28);
-    watch[RAHMISVE_LIMIT] = limit;
+    watch[RAHMISVE_WATCH_OPEN] = open;
+    watch[RAHMISVE_WATCH_EXPECTED] = expected;
+    memcpy(watch + RAHMISVE_WATCH_LAST, time, 28);
+    watch[RAHMISVE_WATCH_LIMIT] = limit;
 }
 
 static void watch_begin(void)
@@ -652,11 +652,11 @@ static void watch_begin(void)
     memset(watch, 0xFF, 40);
     IS(rahmisve_watch_begin(1000000, watch) == 0);
     IS(zeros(watch, 36) && watch[9] == 1000000);
-    IS(rahmisve_watch_begin(RAHMISVE_LONGEST_WAIT, watch) == 0 && zeros(watch, 36) && watch[RAHMISVE_LIMIT] == 3600000);
+    IS(rahmisve_watch_begin(RAHMISVE_LONGEST_WAIT_MS, watch) == 0 && zeros(watch, 36) && watch[RAHMISVE_WATCH_LIMIT] == 3600000);
     told("watch_begin: idle, with its limit");
     memset(watch, 0xEE, 40);
-    IS(rahmisve_watch_begin(RAHMISVE_LONGEST_WAIT + 1, watch) == RAHMISVE_LONG_LIMIT && watch[0] == 0xEEEEEEEE && memcmp(watch, watch + 1, 36) == 0);
-    IS(rahmisve_watch_begin(UINT32_MAX, watch) == RAHMISVE_LONG_LIMIT && watch[0] == 0xEEEEEEEE && memcmp(watch, watch + 1, 36) == 0);
+    IS(rahmisve_watch_begin(RAHMISVE_LONGEST_WAIT_MS + 1, watch) == RAHMISVE_ANSWER_LONG_LIMIT && watch[0] == 0xEEEEEEEE && memcmp(watch, watch + 1, 36) == 0);
+    IS(rahmisve_watch_begin(UINT32_MAX, watch) == RAHMISVE_ANSWER_LONG_LIMIT && watch[0] == 0xEEEEEEEE && memcmp(watch, watch + 1, 36) == 0);
     IS(watch_room[0] == 0xABCDEF01 && watch_room[11] == 0xABCDEF02);
     told("watch_begin: its refusal leaves the record");
 }
@@ -665,22 +665,22 @@ static void watch_offer(void)
 {
     static const uint8_t later[8] = {0x20, 0x08, 0x06, 0x10, 0x00, 0x00, 0x10, 0x00};
     IS(rahmisve_watch_begin(500, watch) == 0);
-    stays(0, RAHMISVE_STRAY, 5, day_60, 8);
-    goes(0, day_60, RAHMISVE_OPENED, 1, 1, 500);
+    stays(0, RAHMISVE_VERDICT_STRAY, 5, day_60, 8);
+    goes(0, day_60, RAHMISVE_VERDICT_OPENED, 1, 1, 500);
     for (uint32_t block = 1; block <= 9; block++)
-        goes(block, block < 5 ? day_60 : day_61, RAHMISVE_KEPT, 1, block + 1, 500);
-    goes(10, day_61, RAHMISVE_COMPLETE, 0, 0, 500);
+        goes(block, block < 5 ? day_60 : day_61, RAHMISVE_VERDICT_KEPT, 1, block + 1, 500);
+    goes(10, day_61, RAHMISVE_VERDICT_COMPLETE, 0, 0, 500);
     told("watch_offer: a whole scan, the ten numbers after each offer");
-    goes(0, day_60, RAHMISVE_OPENED, 1, 1, 500);
-    goes(2, day_61, RAHMISVE_BROKEN, 0, 0, 500);
-    goes(0, day_61, RAHMISVE_OPENED, 1, 1, 500);
-    goes(1, day_60, RAHMISVE_CLOCK_BACK, 0, 0, 500);
-    goes(0, day_61, RAHMISVE_OPENED, 1, 1, 500);
-    goes(1, later, RAHMISVE_LATE, 0, 0, 500);
-    goes(0, day_61, RAHMISVE_OPENED, 1, 1, 500);
-    goes(0, day_60, RAHMISVE_CLOCK_BACK, 1, 1, 500);
-    goes(0, marked_tag, RAHMISVE_CLOCK_BACK, 1, 1, 500);
-    goes(11, marked_tag, RAHMISVE_BROKEN, 0, 0, 500);
+    goes(0, day_60, RAHMISVE_VERDICT_OPENED, 1, 1, 500);
+    goes(2, day_61, RAHMISVE_VERDICT_BROKEN, 0, 0, 500);
+    goes(0, day_61, RAHMISVE_VERDICT_OPENED, 1, 1, 500);
+    goes(1, day_60, RAHMISVE_VERDICT_CLOCK_BACK, 0, 0, 500);
+    goes(0, day_61, RAHMISVE_VERDICT_OPENED, 1, 1, 500);
+    goes(1, later, RAHMISVE_VERDICT_LATE, 0, 0, 500);
+    goes(0, day_61, RAHMISVE_VERDICT_OPENED, 1, 1, 500);
+    goes(0, day_60, RAHMISVE_VERDICT_CLOCK_BACK, 1, 1, 500);
+    goes(0, marked_tag, RAHMISVE_VERDICT_CLOCK_BACK, 1, 1, 500);
+    goes(11, marked_tag, RAHMISVE_VERDICT_BROKEN, 0, 0, 500);
     told("watch_offer: each closing, and a block 0 that closes and opens");
 
     static const uint32_t odd[7] = {1, 2, 3, 4, 5, 6, 7};
@@ -688,34 +688,34 @@ static void watch_offer(void)
     static const uint32_t bad_year[7] = {65536 + 2008, 60, 23, 59, 59, 999, 0};
     static const uint32_t good_time[7] = {2008, 60, 23, 59, 59, 999, 77};
     lent(0, 99, odd, 500);
-    stays(0, RAHMISVE_STRAY, 5, day_60, 8);
-    goes(0, day_60, RAHMISVE_OPENED, 1, 1, 500);
+    stays(0, RAHMISVE_VERDICT_STRAY, 5, day_60, 8);
+    goes(0, day_60, RAHMISVE_VERDICT_OPENED, 1, 1, 500);
     lent(256, 3, good_time, 500);
-    goes(3, day_61, RAHMISVE_KEPT, 1, 4, 500);
+    goes(3, day_61, RAHMISVE_VERDICT_KEPT, 1, 4, 500);
     lent(0x80000000u, 10, good_time, 500);
-    goes(10, day_61, RAHMISVE_COMPLETE, 0, 0, 500);
+    goes(10, day_61, RAHMISVE_VERDICT_COMPLETE, 0, 0, 500);
     told("watch_offer: a lent record with odd numbers in it");
     lent(256, 3, good_time, 500);
-    stays(RAHMISVE_UNKNOWN_BLOCK, 0, 12, day_61, 8);
-    stays(RAHMISVE_UNKNOWN_BLOCK, 0, 256 + 3, day_61, 8);
-    stays(RAHMISVE_UNKNOWN_BLOCK, 0, 65536 + 3, NULL, 0);
-    stays(RAHMISVE_BAD_TAG, 0, 3, day_60, 7);
-    stays(RAHMISVE_BAD_TAG, 0, 3, day_60, 9);
-    stays(RAHMISVE_BAD_TAG, 0, 3, NULL, 0);
+    stays(RAHMISVE_ANSWER_UNKNOWN_BLOCK, 0, 12, day_61, 8);
+    stays(RAHMISVE_ANSWER_UNKNOWN_BLOCK, 0, 256 + 3, day_61, 8);
+    stays(RAHMISVE_ANSWER_UNKNOWN_BLOCK, 0, 65536 + 3, NULL, 0);
+    stays(RAHMISVE_ANSWER_BAD_TAG, 0, 3, day_60, 7);
+    stays(RAHMISVE_ANSWER_BAD_TAG, 0, 3, day_60, 9);
+    stays(RAHMISVE_ANSWER_BAD_TAG, 0, 3, NULL, 0);
     lent(1, 256 + 3, good_time, 500);
-    stays(RAHMISVE_NO_RECORD, 0, 3, day_61, 8);
+    stays(RAHMISVE_ANSWER_NO_RECORD, 0, 3, day_61, 8);
     lent(1, 0, good_time, 500);
-    stays(RAHMISVE_NO_RECORD, 0, 3, day_61, 8);
+    stays(RAHMISVE_ANSWER_NO_RECORD, 0, 3, day_61, 8);
     lent(7, 11, bad_hour, 3600001);
-    stays(RAHMISVE_LONG_LIMIT, 0, 99, day_61, 8);
+    stays(RAHMISVE_ANSWER_LONG_LIMIT, 0, 99, day_61, 8);
     watch[9] = 3600000;
-    stays(RAHMISVE_NO_RECORD, 0, 99, day_61, 8);
+    stays(RAHMISVE_ANSWER_NO_RECORD, 0, 99, day_61, 8);
     watch[1] = 10;
-    stays(RAHMISVE_BAD_TAG, 0, 99, day_61, 8);
+    stays(RAHMISVE_ANSWER_BAD_TAG, 0, 99, day_61, 8);
     lent(7, 10, bad_year, 500);
-    stays(RAHMISVE_BAD_TAG, 0, 10, day_61, 8);
+    stays(RAHMISVE_ANSWER_BAD_TAG, 0, 10, day_61, 8);
     lent(0, 0, odd, UINT32_MAX);
-    stays(RAHMISVE_LONG_LIMIT, 0, 0, day_61, 8);
+    stays(RAHMISVE_ANSWER_LONG_LIMIT, 0, 0, day_61, 8);
     told("watch_offer: its refusals leave the record to the bit");
 }
 
