@@ -4,6 +4,10 @@
 
 #include "rahmisve.h"
 
+/* The text of each answer. */
+#define TEXT(name, number, text) text,
+static const char *const texts[] = {RAHMISVE_ANSWERS(TEXT)};
+
 /* The time of the header's tag, and how long after midnight that is. */
 static void print_time(const uint8_t *tag)
 {
@@ -13,19 +17,20 @@ static void print_time(const uint8_t *tag)
 
     unsigned answer = rahmisve_read_tag(tag, RAHMISVE_TAG_BYTES, time);
     if (answer != RAHMISVE_ANSWER_ACCEPTED) {
-        printf("time: refused, %u\n", answer);
+        printf("time: refused: %u, %s\n", answer, texts[answer]);
         return;
     }
     midnight[RAHMISVE_TIME_YEAR] = time[RAHMISVE_TIME_YEAR];
     midnight[RAHMISVE_TIME_DAY] = time[RAHMISVE_TIME_DAY];
     rahmisve_write_tag(midnight, begin);
     rahmisve_elapsed(begin, sizeof begin, tag, RAHMISVE_TAG_BYTES, &ms);
-    printf("time: %u day %u, %02u:%02u:%02u.%03u%s, %ld ms after midnight\n", (unsigned)time[RAHMISVE_TIME_YEAR], (unsigned)time[RAHMISVE_TIME_DAY],
-           (unsigned)time[RAHMISVE_TIME_HOUR], (unsigned)time[RAHMISVE_TIME_MINUTE], (unsigned)time[RAHMISVE_TIME_SECOND],
-           (unsigned)time[RAHMISVE_TIME_MILLISECOND], time[RAHMISVE_TIME_FLYWHEEL] ? " by flywheel" : "", (long)ms);
+    printf("time: %u day %u, ", (unsigned)time[RAHMISVE_TIME_YEAR], (unsigned)time[RAHMISVE_TIME_DAY]);
+    printf("%02u:%02u:%02u.%03u", (unsigned)time[RAHMISVE_TIME_HOUR], (unsigned)time[RAHMISVE_TIME_MINUTE],
+           (unsigned)time[RAHMISVE_TIME_SECOND], (unsigned)time[RAHMISVE_TIME_MILLISECOND]);
+    printf("%s, %ld ms after midnight\n", time[RAHMISVE_TIME_FLYWHEEL] ? " by flywheel" : "", (long)ms);
 }
 
-/* The records among the words, each with what it holds and its first pixel, which stands behind 16 words of line documentation. */
+/* The records among the words, each with what it holds and its first pixel, which stands behind the line documentation. */
 static void print_records(const uint8_t *header, unsigned block, unsigned version, unsigned records, const uint16_t *words, size_t count)
 {
     for (unsigned k = 1; k <= records; k++) {
@@ -35,7 +40,7 @@ static void print_records(const uint8_t *header, unsigned block, unsigned versio
             continue;
         rahmisve_place(block, version, k, &channel, &detector);
         printf("record %u: channel %u, detector %u, %zu words from word %zu, first pixel %u\n", k, channel, detector, length, start,
-               words[start + 16]);
+               words[start + RAHMISVE_DOCUMENTATION_WORDS]);
     }
 }
 
@@ -44,7 +49,7 @@ int main(int argc, char **argv)
     static uint8_t bytes[RAHMISVE_MOST_BYTES + 1]; /* a byte more, so that a longer file shows as too long */
     static uint16_t words[RAHMISVE_MOST_WORDS];
     uint8_t header[RAHMISVE_HEADER_BYTES], copies[RAHMISVE_COPY_MARKS], block, version, size, records;
-    size_t length, count, field;
+    size_t length, word_count, field_bytes;
 
     FILE *file = argc > 1 ? fopen(argv[1], "rb") : stdin;
     if (!file) {
@@ -53,20 +58,20 @@ int main(int argc, char **argv)
     }
     length = fread(bytes, 1, sizeof bytes, file);
     if (ferror(file)) {
-        perror("read");
+        perror(argc > 1 ? argv[1] : "standard input");
         return 2;
     }
     fclose(file);
 
-    unsigned answer = rahmisve_read(bytes, length, words, RAHMISVE_MOST_WORDS, header, copies, &count);
+    unsigned answer = rahmisve_read(bytes, length, words, RAHMISVE_MOST_WORDS, header, copies, &word_count);
     if (answer != RAHMISVE_ANSWER_ACCEPTED) {
-        printf("refused: %u\n", answer);
+        printf("refused: %u, %s\n", answer, texts[answer]);
         return 1;
     }
-    rahmisve_plan(header, sizeof header, &block, &version, &size, &records, &count, &field);
-    printf("block %u, version %u: %zu words of %u bits in a field of %zu bytes\n", block, version, count, size, field);
+    rahmisve_plan(header, sizeof header, &block, &version, &size, &records, &word_count, &field_bytes);
+    printf("block %u, version %u: %zu words of %u bits in a field of %zu bytes\n", block, version, word_count, size, field_bytes);
     printf("header copies that passed:%s%s%s\n", copies[0] ? " 1" : "", copies[1] ? " 2" : "", copies[2] ? " 3" : "");
-    print_records(header, block, version, records, words, count);
-    print_time(header + 16);
+    print_records(header, block, version, records, words, word_count);
+    print_time(header + RAHMISVE_HEADER_TIME);
     return 0;
 }

@@ -4,30 +4,43 @@
 
 #include "rahmisve.h"
 
-enum { PIXELS = 1, RECORD = 16 + PIXELS, WORDS = 4 * RECORD };
+enum { RECORDS = 4, PIXELS = 1 };
+enum { RECORD = RAHMISVE_DOCUMENTATION_WORDS + PIXELS, WORDS = RECORDS * RECORD, COUNT = WORDS + RAHMISVE_EXTRA_WORDS };
+
+/* The text of each answer. */
+#define TEXT(name, number, text) text,
+static const char *const texts[] = {RAHMISVE_ANSWERS(TEXT)};
+
+static const uint32_t time[RAHMISVE_TIME_NUMBERS] = {
+    [RAHMISVE_TIME_YEAR] = 2008, [RAHMISVE_TIME_DAY] = 60,    [RAHMISVE_TIME_HOUR] = 23,
+    [RAHMISVE_TIME_MINUTE] = 59, [RAHMISVE_TIME_SECOND] = 59, [RAHMISVE_TIME_MILLISECOND] = 999,
+};
 
 int main(void)
 {
-    /* Byte 0 is the block id, 1 the word size, 2 and 3 the count of words plus two, 7 the version, 8 data valid. */
-    uint8_t header[RAHMISVE_HEADER_BYTES] = {1, 10, (WORDS + 2) >> 8, (WORDS + 2) & 255, 0, 0, 0, 2, 1};
-    const uint32_t time[RAHMISVE_TIME_NUMBERS] = {2008, 60, 23, 59, 59, 999, 0};
+    uint8_t header[RAHMISVE_HEADER_BYTES] = {
+        [RAHMISVE_HEADER_ID] = 1,
+        [RAHMISVE_HEADER_SIZE] = 10,
+        [RAHMISVE_HEADER_COUNT] = COUNT >> 8, COUNT & 255,
+        [RAHMISVE_HEADER_VERSION] = 2,
+        [RAHMISVE_HEADER_VALID] = 1,
+    };
     uint16_t words[WORDS];
     uint8_t block[RAHMISVE_MOST_BYTES];
     size_t bytes;
-    unsigned answer;
 
-    /* The SPS time stands in the header at bytes 16 to 23. */
-    answer = rahmisve_write_tag(time, header + 16);
-    if (answer != RAHMISVE_ANSWER_ACCEPTED) {
-        fprintf(stderr, "the time is refused: %u\n", answer);
-        return 1;
-    }
     for (unsigned i = 0; i < WORDS; i++)
         words[i] = (uint16_t)(100 * (i / RECORD + 1) + i % RECORD);
-    answer = rahmisve_write(header, sizeof header, words, WORDS, block, sizeof block, &bytes);
+    unsigned answer = rahmisve_write_tag(time, header + RAHMISVE_HEADER_TIME);
+    if (answer == RAHMISVE_ANSWER_ACCEPTED)
+        answer = rahmisve_write(header, sizeof header, words, WORDS, block, sizeof block, &bytes);
     if (answer != RAHMISVE_ANSWER_ACCEPTED) {
-        fprintf(stderr, "the block is refused: %u\n", answer);
+        fprintf(stderr, "refused: %u, %s\n", answer, texts[answer]);
         return 1;
     }
-    return fwrite(block, 1, bytes, stdout) != bytes;
+    if (fwrite(block, 1, bytes, stdout) != bytes || fflush(stdout) != 0) {
+        perror("standard output");
+        return 2;
+    }
+    return 0;
 }
