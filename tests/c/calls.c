@@ -7,6 +7,8 @@
 
 int printf(const char *, ...);
 int memcmp(const void *, const void *, size_t);
+int strcmp(const char *, const char *);
+size_t strlen(const char *);
 void *memcpy(void *, const void *, size_t);
 void *memset(void *, int, size_t);
 
@@ -55,11 +57,11 @@ static void head(uint8_t *header, unsigned id, unsigned size, unsigned count, un
 {
     for (unsigned i = 0; i < 28; i++)
         header[i] = (uint8_t)(0x80 + 3 * i);
-    header[0] = (uint8_t)id;
-    header[1] = (uint8_t)size;
-    header[2] = (uint8_t)((count + 2) >> 8);
-    header[3] = (uint8_t)((count + 2) & 255);
-    header[7] = (uint8_t)version;
+    header[RAHMISVE_HEADER_ID] = (uint8_t)id;
+    header[RAHMISVE_HEADER_SIZE] = (uint8_t)size;
+    header[RAHMISVE_HEADER_COUNT] = (uint8_t)((count + RAHMISVE_EXTRA_WORDS) >> 8);
+    header[RAHMISVE_HEADER_COUNT + 1] = (uint8_t)((count + RAHMISVE_EXTRA_WORDS) & 255);
+    header[RAHMISVE_HEADER_VERSION] = (uint8_t)version;
 }
 
 static void copies_of(uint8_t *block, const uint8_t *header)
@@ -92,6 +94,7 @@ static void stir_words(uint16_t *all, size_t n)
 static struct {
     size_t count[5];
     int64_t ms[3];
+    uint64_t seq[3];
     uint32_t time[9];
     uint8_t byte[11], header[30], copies[5], holds[6], tag[10];
 } at;
@@ -114,6 +117,28 @@ static int zeros(const void *from, size_t n)
         if (*p++ != 0)
             return 0;
     return 1;
+}
+
+/* ---- version and answers -------------------------------------------------------------------------------------------------------- */
+
+#define NUMBER(name, number, text) number,
+#define TEXT(name, number, text) text,
+#define NAMED(name, number, text) IS(RAHMISVE_ANSWER_##name == number);
+
+static void version_and_answers(void)
+{
+    static const unsigned numbers[] = {RAHMISVE_ANSWERS(NUMBER)};
+    static const char *const texts[] = {RAHMISVE_ANSWERS(TEXT)};
+    IS(rahmisve_version() == RAHMISVE_VERSION);
+    told("version: the archive is of the header's");
+    RAHMISVE_ANSWERS(NAMED)
+    IS(sizeof numbers / sizeof *numbers == RAHMISVE_ANSWER_NUMBERS);
+    for (unsigned i = 0; i < RAHMISVE_ANSWER_NUMBERS; i++) {
+        IS(numbers[i] == i && texts[i][0] != 0);
+        for (unsigned k = 0; k < i; k++)
+            IS(strcmp(texts[k], texts[i]) != 0);
+    }
+    told("the answers rise from 0 without a gap, each with a text of its own, so that a table of texts is one");
 }
 
 /* ---- the check word ------------------------------------------------------------------------------------------------------------- */
@@ -227,7 +252,7 @@ static void there_and_back(unsigned id, unsigned size, size_t count, unsigned ve
 
 static void good_blocks(void)
 {
-    there_and_back(240, 8, 8040, 0, 8040);
+    there_and_back(RAHMISVE_BLOCK_0_ID, 8, 8040, 0, 8040);
     there_and_back(1, 10, 68, 1, 2680);
     there_and_back(1, 10, RAHMISVE_MOST_WORDS, 3, MOST_FIELD);
     there_and_back(2, 10, 15756, 2, 19696);
@@ -283,7 +308,8 @@ static unsigned read_there(size_t length, size_t room)
     stir_words(words_there, 24000);
     memcpy(was_words, words_there, sizeof was_words);
     fresh();
-    return rahmisve_read(length ? bytes_there + 1 : NULL, length, room ? words_there + 1 : NULL, room, at.header + 1, at.copies + 1, &at.count[1]);
+    return rahmisve_read(length ? bytes_there + 1 : NULL, length, room ? words_there + 1 : NULL, room, at.header + 1, at.copies + 1,
+                         &at.count[1]);
 }
 
 static void not_read(unsigned number, size_t length, size_t room)
@@ -346,8 +372,9 @@ static void refused_by_the_reader(void)
     block[89] ^= 1;
     not_read(RAHMISVE_ANSWER_NO_COPY_PASSES, 2772, 68);
     static const unsigned wrong[][5] = {
-        {RAHMISVE_ANSWER_UNKNOWN_BLOCK, 0, 10, 68, 2},   {RAHMISVE_ANSWER_UNKNOWN_BLOCK, 15, 10, 68, 2}, {RAHMISVE_ANSWER_UNKNOWN_VERSION, 1, 10, 68, 4},
-        {RAHMISVE_ANSWER_WRONG_SIZE, 1, 8, 68, 2},       {RAHMISVE_ANSWER_WRONG_COUNT, 1, 10, 64, 2},    {RAHMISVE_ANSWER_WRONG_COUNT, 1, 10, RAHMISVE_MOST_WORDS + 4, 2},
+        {RAHMISVE_ANSWER_UNKNOWN_BLOCK, 0, 10, 68, 2},   {RAHMISVE_ANSWER_UNKNOWN_BLOCK, 15, 10, 68, 2},
+        {RAHMISVE_ANSWER_UNKNOWN_VERSION, 1, 10, 68, 4}, {RAHMISVE_ANSWER_WRONG_SIZE, 1, 8, 68, 2},
+        {RAHMISVE_ANSWER_WRONG_COUNT, 1, 10, 64, 2},     {RAHMISVE_ANSWER_WRONG_COUNT, 1, 10, RAHMISVE_MOST_WORDS + 4, 2},
         {RAHMISVE_ANSWER_WRONG_COUNT, 1, 10, 65535, 2},
     };
     for (size_t i = 0; i < sizeof wrong / sizeof *wrong; i++) {
@@ -361,7 +388,8 @@ static void refused_by_the_reader(void)
 
 /* ---- what a header asks for ----------------------------------------------------------------------------------------------------- */
 
-static void planned(const uint8_t *header, size_t length, unsigned number, unsigned block, unsigned version, unsigned size, unsigned records, size_t words, size_t field)
+static void planned(const uint8_t *header, size_t length, unsigned number, unsigned block, unsigned version, unsigned size,
+                    unsigned records, size_t words, size_t field)
 {
     fresh();
     IS(rahmisve_plan(header, length, &at.byte[1], &at.byte[3], &at.byte[5], &at.byte[7], &at.count[1], &at.count[3]) == number);
@@ -376,7 +404,7 @@ static void plans(void)
 {
     uint8_t h[29];
     memset(h, 0, sizeof h);
-    head(h, 240, 8, 8040, 3);
+    head(h, RAHMISVE_BLOCK_0_ID, 8, 8040, 3);
     planned(h, 28, 0, 0, 3, 8, 0, 8040, 8040);
     head(h, 1, 10, RAHMISVE_MOST_WORDS, 2);
     planned(h, 28, 0, 1, 2, 10, 4, RAHMISVE_MOST_WORDS, MOST_FIELD);
@@ -431,7 +459,7 @@ static void record(void)
     located(h, 28, 54, UINT32_MAX, RAHMISVE_ANSWER_NO_RECORD, 0, 0);
     located(h, 27, 54, 1, RAHMISVE_ANSWER_NO_HEADER, 0, 0);
     located(NULL, 0, 54, 1, RAHMISVE_ANSWER_NO_HEADER, 0, 0);
-    head(h, 240, 8, 8040, 2);
+    head(h, RAHMISVE_BLOCK_0_ID, 8, 8040, 2);
     located(h, 28, 8040, 1, RAHMISVE_ANSWER_NO_RECORD, 0, 0);
     head(h, 2, 10, 55, 2);
     located(h, 28, 55, 1, RAHMISVE_ANSWER_WRONG_COUNT, 0, 0);
@@ -502,7 +530,8 @@ static void sections(layout judge, int count, const int table[][3], const char *
     memcpy(was_words, words_here, sizeof was_words);
     for (size_t n = 8039; n <= 8041; n += 2) {
         fresh();
-        IS(judge(words, n, at.holds + 1) == RAHMISVE_ANSWER_WRONG_LENGTH && zeros(at.holds + 1, (size_t)count) && at.holds[count + 1] == 0xFF);
+        IS(judge(words, n, at.holds + 1) == RAHMISVE_ANSWER_WRONG_LENGTH);
+        IS(zeros(at.holds + 1, (size_t)count) && at.holds[count + 1] == 0xFF);
     }
     fresh();
     IS(judge(NULL, 0, at.holds + 1) == RAHMISVE_ANSWER_WRONG_LENGTH && zeros(at.holds + 1, (size_t)count));
@@ -573,7 +602,8 @@ static void write_tag(void)
             memcpy(t, marked_time, sizeof t);
             t[place] = way == 0 ? over[place] : way == 1 ? t[place] + 256u * 256u : way == 2 ? t[place] | 0x80000000u : 0xFFFFFFFFu;
             fresh();
-            IS(rahmisve_write_tag(t, at.tag + 1) == RAHMISVE_ANSWER_BAD_TAG && zeros(at.tag + 1, 8) && at.tag[0] == 0xFF && at.tag[9] == 0xFF);
+            IS(rahmisve_write_tag(t, at.tag + 1) == RAHMISVE_ANSWER_BAD_TAG);
+            IS(zeros(at.tag + 1, 8) && at.tag[0] == 0xFF && at.tag[9] == 0xFF);
             if (place >= 2 && place <= 4) {
                 t[place] = marked_time[place] + 256;
                 IS(rahmisve_write_tag(t, at.tag + 1) == RAHMISVE_ANSWER_BAD_TAG);
@@ -598,7 +628,8 @@ static void elapsed(void)
     static const size_t lengths[][2] = {{7, 8}, {8, 7}, {9, 8}, {0, 8}, {8, 0}, {0, 0}};
     for (int i = 0; i < 6; i++) {
         fresh();
-        IS(rahmisve_elapsed(lengths[i][0] ? day_60 : NULL, lengths[i][0], lengths[i][1] ? day_61 : NULL, lengths[i][1], &at.ms[1]) == RAHMISVE_ANSWER_BAD_TAG);
+        size_t from = lengths[i][0], to = lengths[i][1];
+        IS(rahmisve_elapsed(from ? day_60 : NULL, from, to ? day_61 : NULL, to, &at.ms[1]) == RAHMISVE_ANSWER_BAD_TAG);
         IS(at.ms[0] == -1 && at.ms[1] == 0 && at.ms[2] == -1);
     }
     told("elapsed: its refusals give zero");
@@ -655,8 +686,10 @@ static void watch_begin(void)
     IS(rahmisve_watch_begin(RAHMISVE_LONGEST_WAIT_MS, watch) == 0 && zeros(watch, 36) && watch[RAHMISVE_WATCH_LIMIT] == 3600000);
     told("watch_begin: idle, with its limit");
     memset(watch, 0xEE, 40);
-    IS(rahmisve_watch_begin(RAHMISVE_LONGEST_WAIT_MS + 1, watch) == RAHMISVE_ANSWER_LONG_LIMIT && watch[0] == 0xEEEEEEEE && memcmp(watch, watch + 1, 36) == 0);
-    IS(rahmisve_watch_begin(UINT32_MAX, watch) == RAHMISVE_ANSWER_LONG_LIMIT && watch[0] == 0xEEEEEEEE && memcmp(watch, watch + 1, 36) == 0);
+    IS(rahmisve_watch_begin(RAHMISVE_LONGEST_WAIT_MS + 1, watch) == RAHMISVE_ANSWER_LONG_LIMIT);
+    IS(watch[0] == 0xEEEEEEEE && memcmp(watch, watch + 1, 36) == 0);
+    IS(rahmisve_watch_begin(UINT32_MAX, watch) == RAHMISVE_ANSWER_LONG_LIMIT);
+    IS(watch[0] == 0xEEEEEEEE && memcmp(watch, watch + 1, 36) == 0);
     IS(watch_room[0] == 0xABCDEF01 && watch_room[11] == 0xABCDEF02);
     told("watch_begin: its refusal leaves the record");
 }
@@ -719,9 +752,165 @@ static void watch_offer(void)
     told("watch_offer: its refusals leave the record to the bit");
 }
 
+/* ---- recordings ----------------------------------------------------------------------------------------------------------------- */
+
+static void found(unsigned what, const uint8_t *recording, size_t recording_length, size_t from, unsigned tag, size_t start, size_t length)
+{
+    fresh();
+    IS(rahmisve_next_field(recording, recording_length, from, &at.byte[1], &at.count[1], &at.count[3]) == what);
+    IS(at.byte[1] == tag && at.count[1] == start && at.count[3] == length);
+    IS(at.byte[0] == 0xFF && at.byte[2] == 0xFF);
+    IS(ones(&at.count[0], 8) && ones(&at.count[2], 8) && ones(&at.count[4], 8));
+}
+
+/* A field of 258 bytes, 0x0102, with tag 7; an empty one with tag 200; one of a byte with tag 1. */
+static void next_field(void)
+{
+    static uint8_t recording[268], longest[RAHMISVE_FIELD_BYTES] = {255, 255, 255};
+    static const uint8_t first[] = {7, 1, 2}, rest[] = {200, 0, 0, 1, 0, 1, 9};
+    stir_bytes(recording, sizeof recording);
+    memcpy(recording, first, sizeof first);
+    memcpy(recording + 261, rest, sizeof rest);
+    found(RAHMISVE_FOUND_FIELD, recording, 268, 0, 7, RAHMISVE_FRONT_BYTES, 258);
+    found(RAHMISVE_FOUND_FIELD, recording, 268, 261, 200, 264, 0);
+    found(RAHMISVE_FOUND_FIELD, recording, 268, 264, 1, 267, 1);
+    found(RAHMISVE_FOUND_FIELD, recording, 261, 0, 7, 3, 258);
+    found(RAHMISVE_FOUND_FIELD, recording + 264, 4, 0, RAHMISVE_BLOCK_FIELD, 3, 1);
+    found(RAHMISVE_FOUND_FIELD, longest, RAHMISVE_FIELD_BYTES, 0, 255, 3, 65535);
+    told("next_field: tag, start and length, of an empty and of the longest field too");
+    found(RAHMISVE_FOUND_END, recording, 268, 268, 0, 0, 0);
+    found(RAHMISVE_FOUND_END, recording, 261, 261, 0, 0, 0);
+    found(RAHMISVE_FOUND_END, recording, 268, 269, 0, 0, 0);
+    found(RAHMISVE_FOUND_END, recording, 268, (size_t)-1, 0, 0, 0);
+    found(RAHMISVE_FOUND_END, recording, 268, (size_t)1 << 32, 0, 0, 0);
+    found(RAHMISVE_FOUND_END, NULL, 0, 0, 0, 0, 0);
+    found(RAHMISVE_FOUND_END, NULL, 0, (size_t)-3, 0, 0, 0);
+    told("next_field: the end, where it is and anywhere beyond it");
+    found(RAHMISVE_FOUND_CUT, recording, 1, 0, 0, 0, 0);
+    found(RAHMISVE_FOUND_CUT, recording, 2, 0, 0, 0, 0);
+    found(RAHMISVE_FOUND_CUT, recording, 3, 0, 0, 0, 0);
+    found(RAHMISVE_FOUND_CUT, recording, 260, 0, 0, 0, 0);
+    found(RAHMISVE_FOUND_CUT, recording, 267, 264, 0, 0, 0);
+    found(RAHMISVE_FOUND_CUT, recording, 268, 267, 0, 0, 0);
+    found(RAHMISVE_FOUND_CUT, longest, RAHMISVE_FIELD_BYTES - 1, 0, 0, 0, 0);
+    told("next_field: cut in the front and in the body");
+}
+
+/* The line of the first `length` bytes at bytes_there + 1, and room for `room` words. */
+static unsigned line_there(uint64_t before, uint32_t tag, size_t length, size_t room)
+{
+    stir_words(words_there, 24000);
+    memcpy(was_words, words_there, sizeof was_words);
+    memcpy(was_bytes, bytes_there, sizeof was_bytes);
+    fresh();
+    unsigned answer = rahmisve_line(before, tag, length ? bytes_there + 1 : NULL, length, room ? words_there + 1 : NULL, room, &at.seq[1],
+                                    &at.byte[1], &at.byte[3], &at.count[1]);
+    IS(ones(&at.seq[0], 8) && ones(&at.seq[2], 8) && ones(&at.count[0], 8) && ones(&at.count[2], 8));
+    IS(at.byte[0] == 0xFF && at.byte[2] == 0xFF && at.byte[4] == 0xFF);
+    IS(memcmp(bytes_there, was_bytes, sizeof was_bytes) == 0);
+    return answer;
+}
+
+static void not_lined(unsigned number, uint32_t tag, size_t length, size_t room)
+{
+    IS(line_there(41, tag, length, room) == number);
+    IS(at.seq[1] == 42 && at.byte[1] == 0 && at.byte[3] == 0 && at.count[1] == 0);
+    IS(memcmp(words_there, was_words, sizeof was_words) == 0);
+}
+
+static void line(void)
+{
+    uint8_t *block = a_block();
+    static const uint64_t before[][2] = {{0, 1}, {41, 42}, {UINT64_C(0x100000006), UINT64_C(0x100000007)}, {UINT64_MAX, UINT64_MAX}};
+    for (int i = 0; i < 4; i++) {
+        IS(line_there(before[i][0], RAHMISVE_BLOCK_FIELD, 2772, 75) == RAHMISVE_ANSWER_ACCEPTED);
+        IS(at.seq[1] == before[i][1] && at.byte[1] == 1 && at.byte[3] == 2 && at.count[1] == 68);
+        memcpy(was_words + 1, words_here, 2 * 68);
+        IS(memcmp(words_there, was_words, sizeof was_words) == 0);
+    }
+    told("line: each number in its place, the words in the room, and no field number above the largest");
+    static const uint32_t tags[] = {0, 2, 255, 256 + 1, 65536 + 1, 0x80000001u};
+    for (int i = 0; i < 6; i++)
+        not_lined(RAHMISVE_ANSWER_OTHER_FIELD, tags[i], 2772, 75);
+    not_lined(RAHMISVE_ANSWER_OTHER_FIELD, 2, 0, 0);
+    not_lined(RAHMISVE_ANSWER_NO_HEADER, 1, 0, 0);
+    not_lined(RAHMISVE_ANSWER_NO_HEADER, 1, 89, 75);
+    not_lined(RAHMISVE_ANSWER_WRONG_LENGTH, 1, 2771, 75);
+    not_lined(RAHMISVE_ANSWER_SMALL_ROOM, 1, 2772, 67);
+    not_lined(RAHMISVE_ANSWER_SMALL_ROOM, 1, 2772, 0);
+    block[90 + 2679] ^= 1;
+    not_lined(RAHMISVE_ANSWER_CHECK_DISAGREES, 1, 2772, 75);
+    told("line: another tag and a refused block leave the room and give zeros behind the field's number");
+}
+
+/* Each text into more room than it needs, into exactly enough, and into a byte less. */
+enum text { FIRST, LINE, LAST };
+struct numbers { uint64_t seq; uint32_t block, version; size_t word_count; uint32_t answer; };
+
+static unsigned put_text(enum text which, struct numbers n, uint8_t *room, size_t length)
+{
+    fresh();
+    if (which == FIRST)
+        return rahmisve_first_text(room, length, &at.count[1]);
+    if (which == LINE)
+        return rahmisve_line_text(n.seq, n.block, n.version, n.word_count, n.answer, room, length, &at.count[1]);
+    return rahmisve_last_text(n.answer, n.seq, room, length, &at.count[1]);
+}
+
+static void reads(enum text which, struct numbers n, const char *text)
+{
+    size_t length = strlen(text);
+    for (int less = -1; less <= 1; less++) {
+        size_t room = less < 0 ? RAHMISVE_LINE_BYTES : length - (size_t)less;
+        stir_bytes(bytes_here, 200);
+        memcpy(was_bytes, bytes_here, 200);
+        if (less <= 0)
+            memcpy(was_bytes + 1, text, length);
+        IS(put_text(which, n, bytes_here + 1, room) == (less <= 0 ? RAHMISVE_ANSWER_ACCEPTED : RAHMISVE_ANSWER_SMALL_ROOM));
+        IS(at.count[1] == (less <= 0 ? length : 0) && ones(&at.count[0], 8) && ones(&at.count[2], 8));
+        IS(memcmp(bytes_here, was_bytes, 200) == 0);
+    }
+    IS(put_text(which, n, NULL, 0) == RAHMISVE_ANSWER_SMALL_ROOM && at.count[1] == 0);
+}
+
+static void text_of_line(uint64_t seq, uint32_t block, uint32_t version, size_t word_count, uint32_t answer, const char *text)
+{
+    struct numbers n = {seq, block, version, word_count, answer};
+    reads(LINE, n, text);
+}
+
+static void text_of_last(uint32_t cut, uint64_t fields, const char *text)
+{
+    struct numbers n = {fields, 0, 0, 0, cut};
+    reads(LAST, n, text);
+}
+
+static void texts(void)
+{
+    struct numbers none = {0, 0, 0, 0, 0};
+    reads(FIRST, none, "seq block version words answer\n");
+    told("first_text: byte for byte, and a room too small by one is as it was");
+    text_of_line(1, 3, 2, 20, 0, "1 3 2 20 0\n");
+    text_of_line(UINT64_C(10000000000), 11, 1, 10720, 0, "10000000000 11 1 10720 0\n");
+    text_of_line(UINT64_MAX, 256, 65536, (size_t)-1, 0, "18446744073709551615 255 255 18446744073709551615 0\n");
+    text_of_line(0, 0, 255, 0, 0, "0 0 255 0 0\n");
+    text_of_line(2, 0, 0, 0, RAHMISVE_ANSWER_NO_HEADER, "2 - - - 1\n");
+    text_of_line(7, 3, 2, 20, 17, "7 - - - 17\n");
+    text_of_line(UINT64_MAX, 3, 2, 20, 256, "18446744073709551615 - - - 255\n");
+    text_of_line(7, 3, 2, 20, 0x80000000u, "7 - - - 255\n");
+    told("line_text: of a block and of a refusal, with numbers of every width, byte for byte");
+    text_of_last(0, 2, "end 2\n");
+    text_of_last(1, 0, "cut 0\n");
+    text_of_last(256, 105, "cut 105\n");
+    text_of_last(0x80000000u, UINT64_MAX, "cut 18446744073709551615\n");
+    text_of_last(0, UINT64_C(0x100000000), "end 4294967296\n");
+    told("last_text: end and cut, byte for byte");
+}
+
 int main(void)
 {
     good = 1;
+    version_and_answers();
     check_word();
     words_of_a_field();
     good_blocks();
@@ -737,5 +926,8 @@ int main(void)
     elapsed();
     watch_begin();
     watch_offer();
+    next_field();
+    line();
+    texts();
     return !all_good;
 }

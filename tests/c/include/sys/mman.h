@@ -1,0 +1,12 @@
+/* What tests/c/protected.c uses of sys/mman.h, as Linux has it. */
+#ifndef HERE_SYS_MMAN_H
+#define HERE_SYS_MMAN_H
+#include <stddef.h>
+#define PROT_READ 1
+#define PROT_WRITE 2
+#define MAP_PRIVATE 2
+#define MAP_ANONYMOUS 32
+#define MAP_FAILED ((void *)-1)
+void *mmap(void *, size_t, int, int, int, long);
+int mprotect(void *, size_t, int);
+#endif
