@@ -6,7 +6,7 @@
 
 #include "rahmisve.h"
 
-enum { WAIT_MS = 1000 };
+enum { WAIT_MS = 5000 };
 
 /* The text of each answer. */
 #define TEXT(name, number, text) text,
@@ -72,7 +72,7 @@ static void offer(unsigned long field, const uint8_t *body, size_t length, uint3
     if (answer == RAHMISVE_ANSWER_ACCEPTED)
         answer = rahmisve_watch_offer(watch, block, tag, RAHMISVE_TAG_BYTES, &verdict);
     if (answer != RAHMISVE_ANSWER_ACCEPTED) {
-        printf("field %lu: refused: %s\n", field, texts[answer]);
+        printf("field %lu: refused: %u, %s\n", field, answer, texts[answer]);
     } else if (verdicts[verdict]) {
         printf("field %lu: block %u, ", field, block);
         print_time(tag);

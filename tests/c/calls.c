@@ -565,6 +565,7 @@ static void read_tag(void)
     IS(ones(at.time, 4) && ones(at.time + 8, 4));
     IS(at.time[1 + RAHMISVE_TIME_YEAR] == 1987 && at.time[1 + RAHMISVE_TIME_DAY] == 234 && at.time[1 + RAHMISVE_TIME_HOUR] == 21);
     IS(at.time[1 + RAHMISVE_TIME_MINUTE] == 43 && at.time[1 + RAHMISVE_TIME_SECOND] == 56 && at.time[1 + RAHMISVE_TIME_MILLISECOND] == 789);
+    IS(at.time[1 + RAHMISVE_TIME_FLYWHEEL] == 1);
     IS(rahmisve_read_tag(day_60, 8, at.time + 1) == 0 && memcmp(at.time + 1, time_60, 28) == 0);
     told("read_tag: seven numbers, each in its place");
     uint8_t bad[8];

@@ -4,4 +4,5 @@
 #include <stddef.h>
 void *memcpy(void *, const void *, size_t);
 void *memmove(void *, const void *, size_t);
+void *memset(void *, int, size_t);
 #endif
