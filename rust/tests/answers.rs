@@ -7,10 +7,10 @@ const NEXT: [u8; 8] = [0x20, 0x08, 0x06, 0x10, 0, 0, 0, 0];
 
 fn header(id: u8, size: u8, words: u16, version: u8) -> Header {
     let mut h: Header = core::array::from_fn(|i| 0x80 + 3 * i as u8);
-    h[0] = id;
-    h[1] = size;
-    h[2..4].copy_from_slice(&(words + 2).to_be_bytes());
-    h[7] = version;
+    h[HEADER_ID] = id;
+    h[HEADER_SIZE] = size;
+    h[HEADER_COUNT..HEADER_COUNT + 2].copy_from_slice(&(words + EXTRA_WORDS).to_be_bytes());
+    h[HEADER_VERSION] = version;
     h
 }
 
@@ -30,9 +30,9 @@ fn block(h: &Header, ws: &[u16]) -> Vec<u8> {
 fn a_block_of_each_row_there_and_back() {
     // id, word size, words, records, bytes of the field
     let rows = [
-        (240, 8, 8_040, 0, 8_040),
+        (BLOCK_0_ID, 8, 8_040, 0, 8_040),
         (1, 10, 68, 4, 2_680),
-        (1, 10, MOST_WORDS, 4, MOST_BYTES - AROUND),
+        (1, 10, MOST_WORDS, 4, MOST_BYTES - AROUND_BYTES),
         (2, 10, 15_756, 3, 19_696),
         (3, 10, 20, 1, 2_680),
         (10, 10, 20_960, 1, 26_200),
@@ -44,17 +44,17 @@ fn a_block_of_each_row_there_and_back() {
         let h = header(id, size, count as u16, version);
         let ws = words(count, size.into());
         let bytes = block(&h, &ws);
-        assert_eq!(bytes.len(), field + AROUND);
+        assert_eq!(bytes.len(), field + AROUND_BYTES);
         let mut room = vec![0xBEEF; MOST_WORDS];
         let got = read(&bytes, &mut room).expect("it is read again");
-        assert_eq!(got, Read { header: h, copies: [true; 3], words: count });
+        assert_eq!(got, Read { header: h, copies: [true; 3], word_count: count });
         assert_eq!(room[..count], ws);
         assert!(room[count..].iter().all(|w| *w == 0xBEEF), "behind the words nothing is written");
-        let number = if id == 240 { 0 } else { id };
-        assert_eq!(plan(&h), Ok(Plan { block: number, version, size, records, words: count, field }));
+        let number = if id == BLOCK_0_ID { 0 } else { id };
+        assert_eq!(plan(&h), Ok(Plan { block: number, version, size, records, word_count: count, field_bytes: field }));
         let parts: Vec<_> = (1..=records.into()).map(|k| record(&h, &room, k).expect("a record")).collect();
         assert!(records == 0 || parts.concat() == ws, "the records joined are the words");
-        assert_eq!(record(&h, &room, u32::from(records) + 1), Err(Refusal(13)));
+        assert_eq!(record(&h, &room, u32::from(records) + 1), Err(Refusal::NoRecord));
     }
 }
 
@@ -64,37 +64,37 @@ fn refusals_leave_the_room() {
     let ws = words(68, 10);
     let good = block(&h, &ws);
     let mut short_room = [7; 67];
-    assert_eq!(read(&good, &mut short_room), Err(Refusal(9)));
+    assert_eq!(read(&good, &mut short_room), Err(Refusal::SmallRoom));
     assert_eq!(short_room, [7; 67]);
-    assert_eq!(read(&[], &mut []), Err(Refusal(1)));
+    assert_eq!(read(&[], &mut []), Err(Refusal::NoHeader));
     let mut room = [7; 68];
-    for (bytes, number) in [(&good[..89], 1), (&good[..2_771], 8)] {
-        assert_eq!(read(bytes, &mut room), Err(Refusal(number)));
+    for (bytes, refusal) in [(&good[..89], Refusal::NoHeader), (&good[..2_771], Refusal::WrongLength)] {
+        assert_eq!(read(bytes, &mut room), Err(refusal));
     }
     let mut damaged = good.clone();
     damaged[100] ^= 1;
-    assert_eq!(read(&damaged, &mut room), Err(Refusal(10)));
+    assert_eq!(read(&damaged, &mut room), Err(Refusal::CheckDisagrees));
     damaged[..90].fill(0);
-    assert_eq!(read(&damaged, &mut room), Err(Refusal(2)));
+    assert_eq!(read(&damaged, &mut room), Err(Refusal::NoCopyPasses));
     assert_eq!(room, [7; 68]);
 
     let mut bytes = [7; 2_771];
-    assert_eq!(write(&h, &ws, &mut bytes), Err(Refusal(9)));
-    assert_eq!(write(&h[..27], &ws, &mut bytes), Err(Refusal(1)));
-    assert_eq!(write(&h, &ws[1..], &mut bytes), Err(Refusal(8)));
-    assert_eq!(write(&h, &[], &mut []), Err(Refusal(8)));
+    assert_eq!(write(&h, &ws, &mut bytes), Err(Refusal::SmallRoom));
+    assert_eq!(write(&h[..27], &ws, &mut bytes), Err(Refusal::NoHeader));
+    assert_eq!(write(&h, &ws[1..], &mut bytes), Err(Refusal::WrongLength));
+    assert_eq!(write(&h, &[], &mut []), Err(Refusal::WrongLength));
     let mut long = [7; 3_000];
     let mut large = ws.clone();
     large[67] = 1_024;
-    assert_eq!(write(&h, &large, &mut long), Err(Refusal(14)));
+    assert_eq!(write(&h, &large, &mut long), Err(Refusal::LargeWord));
     assert_eq!((bytes, long), ([7; 2_771], [7; 3_000]));
 
-    assert_eq!(plan(&header(12, 10, 68, 2)), Err(Refusal(4)));
-    assert_eq!(plan(&header(1, 10, 68, 4)), Err(Refusal(5)));
-    assert_eq!(plan(&header(1, 8, 68, 2)), Err(Refusal(6)));
-    assert_eq!(plan(&header(1, 10, 64, 2)), Err(Refusal(7)));
-    assert_eq!(plan(&[]), Err(Refusal(1)));
-    assert_eq!(record(&h, &ws[1..], 1), Err(Refusal(9)));
+    assert_eq!(plan(&header(12, 10, 68, 2)), Err(Refusal::UnknownBlock));
+    assert_eq!(plan(&header(1, 10, 68, 4)), Err(Refusal::UnknownVersion));
+    assert_eq!(plan(&header(1, 8, 68, 2)), Err(Refusal::WrongSize));
+    assert_eq!(plan(&header(1, 10, 64, 2)), Err(Refusal::WrongCount));
+    assert_eq!(plan(&[]), Err(Refusal::NoHeader));
+    assert_eq!(record(&h, &ws[1..], 1), Err(Refusal::SmallRoom));
 }
 
 #[test]
@@ -118,22 +118,22 @@ fn placement() {
     assert_eq!(at(1, 1, 3), Ok((5, 1)));
     assert_eq!(at(2, 3, 3), Ok((6, 1)));
     assert_eq!(at(10, 0, 1), Ok((1, 4)));
-    assert_eq!(at(257, 0, 1), Err(Refusal(4)));
-    assert_eq!(at(1, 260, 1), Err(Refusal(5)));
-    assert_eq!(at(1, 0, 257), Err(Refusal(13)));
+    assert_eq!(at(257, 0, 1), Err(Refusal::UnknownBlock));
+    assert_eq!(at(1, 260, 1), Err(Refusal::UnknownVersion));
+    assert_eq!(at(1, 0, 257), Err(Refusal::NoRecord));
 }
 
 #[test]
 fn parity() {
-    let mut ws = [0; 8_040];
+    let mut ws = [0; PARITY_WORDS];
     ws[7_903] = 9; // in no section
     assert_eq!(parity_imager(&ws), Ok([true; 4]));
     ws[1_100] = 9;
     assert_eq!(parity_imager(&ws), Ok([true, true, false, true]));
     assert_eq!(parity_sounder(&ws), Ok([true, false]));
-    assert_eq!(parity_imager(&ws[1..]), Err(Refusal(8)));
+    assert_eq!(parity_imager(&ws[1..]), Err(Refusal::WrongLength));
     ws[0] = 256;
-    assert_eq!(parity_sounder(&ws), Err(Refusal(14)));
+    assert_eq!(parity_sounder(&ws), Err(Refusal::LargeWord));
 }
 
 #[test]
@@ -146,22 +146,22 @@ fn tags() {
     assert_eq!(elapsed(&TAG, &NEXT), Ok(1));
     assert_eq!(elapsed(&NEXT, &marked), Ok(-1));
     assert_eq!(elapsed(&TAG, &TAG), Ok(0));
-    assert_eq!(elapsed(&TAG, &TAG[1..]), Err(Refusal(12)));
-    assert_eq!(read_tag(&[]), Err(Refusal(12)));
+    assert_eq!(elapsed(&TAG, &TAG[1..]), Err(Refusal::BadTag));
+    assert_eq!(read_tag(&[]), Err(Refusal::BadTag));
     for wrong in [
         Time { year: 10_000, ..time },
         Time { day: 0, ..time },
         Time { hour: 256 + 23, ..time },
         Time { millisecond: 65_536, ..time },
     ] {
-        assert_eq!(write_tag(&wrong), Err(Refusal(12)));
+        assert_eq!(write_tag(&wrong), Err(Refusal::BadTag));
     }
 }
 
 #[test]
 fn a_scan_under_watch() {
     let mut watch = Watch::begin(500).expect("a limit of half a second");
-    assert_eq!(Watch::begin(3_600_001), Err(Refusal(16)));
+    assert_eq!(Watch::begin(LONGEST_WAIT_MS + 1), Err(Refusal::LongLimit));
     assert_eq!(watch.offer(4, &TAG), Ok(Verdict::Stray));
     assert_eq!((watch.is_open(), watch.expected(), watch.last()), (false, None, None));
     assert_eq!(watch.offer(0, &TAG), Ok(Verdict::Opened));
@@ -172,8 +172,8 @@ fn a_scan_under_watch() {
     assert_eq!(watch.last(), Some(read_tag(&NEXT).expect("a good tag")));
     assert_eq!(watch.limit(), 500);
     let kept = Watch::of(watch.numbers());
-    assert_eq!(watch.offer(256 + 10, &NEXT), Err(Refusal(4)));
-    assert_eq!(watch.offer(10, &NEXT[1..]), Err(Refusal(12)));
+    assert_eq!(watch.offer(256 + 10, &NEXT), Err(Refusal::UnknownBlock));
+    assert_eq!(watch.offer(10, &NEXT[1..]), Err(Refusal::BadTag));
     assert_eq!(watch, kept);
     assert_eq!(watch.offer(10, &NEXT), Ok(Verdict::Complete));
     assert_eq!(watch.numbers(), Watch::begin(500).expect("idle").numbers());
@@ -188,7 +188,7 @@ fn a_scan_under_watch() {
     assert_eq!(watch.offer(10, &late), Ok(Verdict::Late));
     let mut numbers = kept.numbers();
     numbers[1] = 256 + 10;
-    assert_eq!(Watch::of(numbers).offer(10, &NEXT), Err(Refusal(13)));
+    assert_eq!(Watch::of(numbers).offer(10, &NEXT), Err(Refusal::NoRecord));
 }
 
 #[test]
@@ -201,10 +201,10 @@ fn what_a_block_is_made_of() {
     let mut field = [9; 4];
     assert_eq!(put_words(&room[..4], 6, &mut field), Ok(()));
     assert_eq!(field, [0x04, 0x20, 0xC4, 0]);
-    assert_eq!(take_words(&field, 17, 1, &mut room), Err(Refusal(6)));
-    assert_eq!(take_words(&field, 8, 5, &mut room), Err(Refusal(8)));
-    assert_eq!(put_words(&[64], 6, &mut field), Err(Refusal(14)));
-    assert_eq!(put_words(&room, 8, &mut field), Err(Refusal(9)));
+    assert_eq!(take_words(&field, 17, 1, &mut room), Err(Refusal::WrongSize));
+    assert_eq!(take_words(&field, 8, 5, &mut room), Err(Refusal::WrongLength));
+    assert_eq!(put_words(&[64], 6, &mut field), Err(Refusal::LargeWord));
+    assert_eq!(put_words(&room, 8, &mut field), Err(Refusal::SmallRoom));
     assert_eq!((room, field), ([1, 2, 3, 4, 9], [0x04, 0x20, 0xC4, 0]));
 }
 
@@ -228,7 +228,82 @@ fn from_several_threads() {
 
 #[test]
 fn a_refusal_says_why() {
-    assert_eq!(Refusal(10).to_string(), "refusal 10: the check word disagrees");
-    let boxed: Box<dyn std::error::Error> = Box::new(Refusal(12));
-    assert_eq!(boxed.to_string(), "refusal 12: bad time tag");
+    assert_eq!(Refusal::CheckDisagrees.number(), 10);
+    let text = Refusal::BadTag.text();
+    let boxed: Box<dyn std::error::Error> = Box::new(Refusal::BadTag);
+    assert_eq!(boxed.to_string(), format!("refusal 12: {text}"));
+    assert_eq!(Refusal::Unlisted(99).number(), 99);
+}
+
+#[test]
+fn the_archive_is_of_this_version() {
+    assert_eq!((version(), check_version()), (VERSION, Ok(())));
+    assert_eq!(
+        OtherVersion { archive: 7 }.to_string(),
+        format!("librahmisve.a is of version 7, and this program is for version {VERSION}")
+    );
+}
+
+fn field(tag: u8, body: &[u8]) -> Vec<u8> {
+    let length = u16::try_from(body.len()).expect("a body that a field can hold");
+    [&[tag][..], &length.to_be_bytes(), body].concat()
+}
+
+#[test]
+fn the_fields_of_a_recording() {
+    let longest = vec![7; FIELD_BYTES - FRONT_BYTES];
+    let recording = [field(1, b"one"), field(2, b""), field(255, &longest)].concat();
+    let wanted = [(1, &b"one"[..]), (2, b""), (255, &longest)].map(|(tag, body)| Field { tag, body });
+    let mut fields = Fields::of(&recording);
+    assert!(fields.by_ref().eq(wanted));
+    assert!(!fields.is_cut());
+    assert_eq!(fields.next(), None);
+    for (end, whole) in [(0, 0), (1, 0), (5, 0), (6, 1), (8, 1), (9, 2), (12, 2), (recording.len() - 1, 2)] {
+        let mut fields = Fields::of(&recording[..end]);
+        assert_eq!((fields.by_ref().count(), fields.is_cut()), (whole, ![0, 6, 9].contains(&end)), "{end} bytes");
+    }
+    for at in [recording.len(), recording.len() + 1, usize::MAX] {
+        assert_eq!(next_field(&recording, at), Found::End);
+    }
+}
+
+#[test]
+fn lines_and_their_texts() {
+    let good = block(&header(3, 10, 20, 2), &words(20, 10));
+    let listed = Listed { block: 3, version: 2, word_count: 20 };
+    let mut room = [7; 21];
+    let mut text = [b'x'; LINE_BYTES];
+    let of = |tag, body| Field { tag, body };
+    let first = line(0, of(BLOCK_FIELD, &good), &mut room);
+    assert_eq!(first, Line { seq: 1, answer: Ok(listed) });
+    assert_eq!((&room[..20], room[20]), (&words(20, 10)[..], 7));
+    assert_eq!(line_text(&first, &mut text), Ok("1 3 2 20 0\n"));
+
+    room = [7; 21];
+    for (before, refused, refusal) in [
+        (1, of(2, &good), Refusal::OtherField),
+        (9, of(1, &good[..89]), Refusal::NoHeader),
+        (u64::MAX, of(1, &good[1..]), Refusal::NoCopyPasses),
+    ] {
+        let line = line(before, refused, &mut room);
+        assert_eq!(line, Line { seq: before.saturating_add(1), answer: Err(refusal) });
+        let wanted = format!("{} - - - {}\n", line.seq, refusal.number());
+        assert_eq!(line_text(&line, &mut text), Ok(&wanted[..]));
+    }
+    assert_eq!(line(0, of(1, &good), &mut room[..19]).answer, Err(Refusal::SmallRoom));
+    assert_eq!(room, [7; 21]);
+
+    let mut small = [7; 30];
+    assert_eq!(first_text(&mut small), Err(Refusal::SmallRoom));
+    assert_eq!(line_text(&first, &mut small[..10]), Err(Refusal::SmallRoom));
+    assert_eq!(last_text(true, 10, &mut small[..6]), Err(Refusal::SmallRoom));
+    assert_eq!(small, [7; 30]);
+    assert_eq!(last_text(true, 10, &mut small[..7]), Ok("cut 10\n"));
+    assert_eq!(last_text(false, u64::MAX, &mut text), Ok("end 18446744073709551615\n"));
+    assert_eq!(first_text(&mut text[..31]), Ok("seq block version words answer\n"));
+
+    // no line is longer than a room of LINE_BYTES holds
+    let widest = Line { seq: u64::MAX, answer: Ok(Listed { block: 255, version: 255, word_count: usize::MAX }) };
+    let wanted = format!("{} 255 255 {} 0\n", u64::MAX, usize::MAX);
+    assert_eq!(line_text(&widest, &mut text), Ok(&wanted[..]));
 }

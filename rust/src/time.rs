@@ -1,0 +1,95 @@
+//! CDA time tags, and the time between two.
+
+use rahmisve_sys::{rahmisve_elapsed, rahmisve_read_tag, rahmisve_write_tag};
+
+use crate::{answer, Refusal, TAG_BYTES, TIME_NUMBERS};
+
+/// The numbers of a time tag. Any may be put here; the writer refuses those out of bounds.
+#[derive(Clone, Copy, Debug, Default, PartialEq, Eq)]
+pub struct Time {
+    /// 0 to 9999.
+    pub year: u32,
+    /// Of the year, from 1.
+    pub day: u32,
+    /// 0 to 23.
+    pub hour: u32,
+    /// 0 to 59.
+    pub minute: u32,
+    /// 0 to 59.
+    pub second: u32,
+    /// 0 to 999.
+    pub millisecond: u32,
+    /// The flywheel mark, which is no part of the time.
+    pub flywheel: bool,
+}
+
+impl Time {
+    pub(crate) fn of(n: [u32; TIME_NUMBERS]) -> Time {
+        let [year, day, hour, minute, second, millisecond, flywheel] = n;
+        Time { year, day, hour, minute, second, millisecond, flywheel: flywheel != 0 }
+    }
+
+    fn numbers(&self) -> [u32; TIME_NUMBERS] {
+        [self.year, self.day, self.hour, self.minute, self.second, self.millisecond, self.flywheel.into()]
+    }
+}
+
+/// Reads a tag of eight bytes.
+///
+/// # Errors
+///
+/// 12.
+///
+/// ```
+/// # use rahmisve::*;
+/// let time = read_tag(&[0x20, 0x08, 0x06, 0x02, 0x35, 0x95, 0x99, 0x99])?;
+/// assert_eq!((time.year, time.day, time.hour, time.millisecond, time.flywheel), (2008, 60, 23, 999, false));
+/// # Ok::<(), Refusal>(())
+/// ```
+pub fn read_tag(tag: &[u8]) -> Result<Time, Refusal> {
+    let mut time = [0; TIME_NUMBERS];
+    // SAFETY: as in `read`.
+    let number = unsafe { rahmisve_read_tag(tag.as_ptr(), tag.len(), &mut time) };
+    answer(number, Time::of(time))
+}
+
+/// The eight bytes of a time's tag.
+///
+/// # Errors
+///
+/// 12 where a number is out of bounds.
+///
+/// ```
+/// # use rahmisve::*;
+/// let tag = write_tag(&Time { year: 2008, day: 366, ..Time::default() })?;
+/// assert_eq!(tag, [0x20, 0x08, 0x36, 0x60, 0, 0, 0, 0]);
+/// assert_eq!(write_tag(&Time { year: 2007, day: 366, ..Time::default() }), Err(Refusal::BadTag));
+/// # Ok::<(), Refusal>(())
+/// ```
+pub fn write_tag(time: &Time) -> Result<[u8; TAG_BYTES], Refusal> {
+    let mut tag = [0; TAG_BYTES];
+    // SAFETY: as in `read`.
+    let number = unsafe { rahmisve_write_tag(&time.numbers(), &mut tag) };
+    answer(number, tag)
+}
+
+/// Milliseconds from one tag to another, negative where the second is earlier.
+///
+/// # Errors
+///
+/// 12.
+///
+/// ```
+/// # use rahmisve::*;
+/// let late = write_tag(&Time { year: 2007, day: 365, ..Time::default() })?;
+/// let next = write_tag(&Time { year: 2008, day: 1, ..Time::default() })?;
+/// assert_eq!(elapsed(&late, &next), Ok(86_400_000));
+/// assert_eq!(elapsed(&next, &late), Ok(-86_400_000));
+/// # Ok::<(), Refusal>(())
+/// ```
+pub fn elapsed(from: &[u8], to: &[u8]) -> Result<i64, Refusal> {
+    let mut ms = 0;
+    // SAFETY: as in `read`; the two tags are only read, and may overlap.
+    let number = unsafe { rahmisve_elapsed(from.as_ptr(), from.len(), to.as_ptr(), to.len(), &mut ms) };
+    answer(number, ms)
+}

@@ -1,0 +1,133 @@
+//! The scan watch.
+
+use rahmisve_sys::{rahmisve_watch_begin, rahmisve_watch_offer};
+
+use crate::{answer, Refusal, Time, WATCH_NUMBERS};
+
+/// What an accepted offer did.
+#[derive(Clone, Copy, Debug, PartialEq, Eq, Hash)]
+pub enum Verdict {
+    /// A block other than 0 came to an idle watch, which stays as it is.
+    Stray,
+    /// Block 0 opened a scan.
+    Opened,
+    /// The expected block came in time.
+    Kept,
+    /// Closed: the tag is earlier than the last one.
+    ClockBack,
+    /// Closed: the wait was longer than the limit.
+    Late,
+    /// Closed: not the expected block.
+    Broken,
+    /// Closed: block 10, and the scan is complete.
+    Complete,
+}
+
+/// A watch over the blocks 0 to 10 of a scan: ten numbers, as the manual has them.
+///
+/// ```
+/// # use rahmisve::*;
+/// let second = |second| write_tag(&Time { year: 2008, day: 60, second, ..Time::default() });
+/// let mut watch = Watch::begin(10_000)?;
+/// assert_eq!(watch.offer(0, &second(5)?), Ok(Verdict::Opened));
+/// assert_eq!(watch.offer(1, &second(7)?), Ok(Verdict::Kept));
+/// assert_eq!(watch.offer(2, &second(6)?), Ok(Verdict::ClockBack));
+/// assert!(!watch.is_open());
+/// # Ok::<(), Refusal>(())
+/// ```
+#[derive(Clone, Copy, Debug, PartialEq, Eq)]
+pub struct Watch([u32; WATCH_NUMBERS]);
+
+impl Watch {
+    /// An idle watch with a waiting limit in ms.
+    ///
+    /// # Errors
+    ///
+    /// 16 for a limit above [`LONGEST_WAIT_MS`](crate::LONGEST_WAIT_MS).
+    ///
+    /// ```
+    /// # use rahmisve::*;
+    /// assert!(Watch::begin(LONGEST_WAIT_MS).is_ok());
+    /// assert_eq!(Watch::begin(LONGEST_WAIT_MS + 1), Err(Refusal::LongLimit));
+    /// ```
+    pub fn begin(limit: u32) -> Result<Watch, Refusal> {
+        let mut numbers = [0; WATCH_NUMBERS];
+        // SAFETY: as in `read`.
+        let number = unsafe { rahmisve_watch_begin(limit, &mut numbers) };
+        answer(number, Watch(numbers))
+    }
+
+    /// Offers a block and the bytes of its tag. A closing block 0 also opens a new scan: see [`is_open`](Watch::is_open).
+    ///
+    /// # Errors
+    ///
+    /// The first that holds of 16, 13 and 12 for the watch itself, which only one made by [`of`](Watch::of) can be refused for, 4 for the
+    /// block, and 12 for its tag. The watch is as it was.
+    ///
+    /// ```
+    /// # use rahmisve::*;
+    /// let mut watch = Watch::begin(1_000)?;
+    /// assert_eq!(watch.offer(12, &[0; TAG_BYTES]), Err(Refusal::UnknownBlock));
+    /// # Ok::<(), Refusal>(())
+    /// ```
+    pub fn offer(&mut self, block: u32, tag: &[u8]) -> Result<Verdict, Refusal> {
+        let mut verdict = 0;
+        // SAFETY: as in `read`.
+        let number = unsafe { rahmisve_watch_offer(&mut self.0, block, tag.as_ptr(), tag.len(), &mut verdict) };
+        let did = match verdict {
+            1 => Verdict::Stray,
+            2 => Verdict::Opened,
+            3 => Verdict::Kept,
+            4 => Verdict::ClockBack,
+            5 => Verdict::Late,
+            6 => Verdict::Broken,
+            7 => Verdict::Complete,
+            _ => return Err(Refusal::of(number)),
+        };
+        answer(number, did)
+    }
+
+    /// Whether a scan is open.
+    #[must_use]
+    pub fn is_open(&self) -> bool {
+        self.0[0] != 0
+    }
+
+    /// The next expected block, while a scan is open.
+    #[must_use]
+    pub fn expected(&self) -> Option<u32> {
+        self.is_open().then_some(self.0[1])
+    }
+
+    /// The last tag's time, while a scan is open.
+    #[must_use]
+    pub fn last(&self) -> Option<Time> {
+        let [_, _, last @ .., _] = self.0;
+        self.is_open().then_some(Time::of(last))
+    }
+
+    /// The waiting limit in ms.
+    #[must_use]
+    pub fn limit(&self) -> u32 {
+        self.0[9]
+    }
+
+    /// The ten numbers, to be kept somewhere.
+    #[must_use]
+    pub fn numbers(&self) -> [u32; WATCH_NUMBERS] {
+        self.0
+    }
+
+    /// A watch of ten numbers that were kept, of any value: what is out of bounds is refused by the offer that would use it.
+    ///
+    /// ```
+    /// # use rahmisve::*;
+    /// let watch = Watch::begin(1_000)?;
+    /// assert_eq!(Watch::of(watch.numbers()), watch);
+    /// # Ok::<(), Refusal>(())
+    /// ```
+    #[must_use]
+    pub fn of(numbers: [u32; WATCH_NUMBERS]) -> Watch {
+        Watch(numbers)
+    }
+}
