@@ -4,7 +4,7 @@ use std::collections::BTreeMap;
 use std::fmt::Write;
 
 use crate::inputs::{self, Dice};
-use crate::library::{Library, Model, ReadAnswer};
+use crate::library::{FieldAnswer, Library, LineAnswer, Model, ReadAnswer};
 use crate::rows;
 use crate::tags::Tag;
 use crate::watch::{Verdict, Watch};
@@ -31,6 +31,11 @@ pub enum Case {
     Offers { start: Start, offers: Vec<(u8, Vec<u8>)> },
     Imager { words: Vec<u16> },
     Sounder { words: Vec<u16> },
+    NextField { recording: Vec<u8>, at: usize, shift: usize },
+    Line { before: u64, tag: u32, body: Vec<u8>, room: Vec<u16>, shift: usize },
+    FirstText { room: Vec<u8> },
+    LineText { seq: u64, block: u32, version: u32, words: usize, answer: u32, room: Vec<u8> },
+    LastText { cut: u32, fields: u64, room: Vec<u8> },
     List { recording: Vec<u8> },
 }
 
@@ -48,6 +53,9 @@ pub enum Answer {
     Offers(u8, Vec<(Verdict, Watch)>),
     Imager(u8, [bool; 4]),
     Sounder(u8, [bool; 2]),
+    Field(FieldAnswer),
+    Line(LineAnswer),
+    Text(u8, usize),
     Listing(String),
 }
 
@@ -182,6 +190,38 @@ pub fn run(library: &dyn Library, case: &Case) -> Outcome {
             words.push(("words", lent));
             Answer::Sounder(number, right)
         }
+        Case::NextField { recording, at, shift } => {
+            let lent = lend_bytes(recording, *shift);
+            let answer = library.next_field(lent.get(), *at);
+            bytes.push(("recording", lent));
+            Answer::Field(answer)
+        }
+        Case::Line { before, tag, body, room, shift } => {
+            let body = lend_bytes(body, *shift);
+            let mut room = lend_words(room, *shift);
+            let answer = library.line(*before, *tag, body.get(), room.get_mut());
+            bytes.push(("body", body));
+            words.push(("room", room));
+            Answer::Line(answer)
+        }
+        Case::FirstText { room } => {
+            let mut room = lend_bytes(room, 0);
+            let (number, written) = library.first_text(room.get_mut());
+            bytes.push(("room", room));
+            Answer::Text(number, written)
+        }
+        Case::LineText { seq, block, version, words, answer, room } => {
+            let mut room = lend_bytes(room, 0);
+            let (number, written) = library.line_text(*seq, *block, *version, *words, *answer, room.get_mut());
+            bytes.push(("room", room));
+            Answer::Text(number, written)
+        }
+        Case::LastText { cut, fields, room } => {
+            let mut room = lend_bytes(room, 0);
+            let (number, written) = library.last_text(*cut, *fields, room.get_mut());
+            bytes.push(("room", room));
+            Answer::Text(number, written)
+        }
         Case::List { recording } => {
             let lent = lend_bytes(recording, 0);
             let listing = library.list(lent.get());
@@ -216,6 +256,11 @@ impl Case {
             Case::Offers { .. } => "offer",
             Case::Imager { .. } => "imager",
             Case::Sounder { .. } => "sounder",
+            Case::NextField { .. } => "next field",
+            Case::Line { .. } => "line",
+            Case::FirstText { .. } => "first text",
+            Case::LineText { .. } => "line text",
+            Case::LastText { .. } => "last text",
             Case::List { .. } => "list",
         }
     }
@@ -257,8 +302,22 @@ impl Case {
             Case::Imager { words } | Case::Sounder { words } => {
                 writeln!(text, "  words, {}: {}", words.len(), hex_words(words)).unwrap();
             }
+            Case::NextField { recording, at, shift } => {
+                bytes("recording", recording);
+                writeln!(text, "  at: {at}, shift: {shift}").unwrap();
+            }
+            Case::Line { before, tag, body, room, shift } => {
+                bytes("body", body);
+                writeln!(text, "  before: {before}, tag: {tag}, shift: {shift}").unwrap();
+                writeln!(text, "  room, {} words: {}", room.len(), hex_words(room)).unwrap();
+            }
             Case::List { recording } => bytes("recording", recording),
-            Case::Place { .. } | Case::WriteTag { .. } | Case::Begin { .. } => {
+            Case::Place { .. }
+            | Case::WriteTag { .. }
+            | Case::Begin { .. }
+            | Case::FirstText { .. }
+            | Case::LineText { .. }
+            | Case::LastText { .. } => {
                 writeln!(text, "  {self:?}").unwrap();
             }
         }
@@ -271,26 +330,21 @@ fn labels(answer: &Answer) -> Vec<String> {
     match answer {
         Answer::Word(_) => vec!["word".into()],
         Answer::Read(read) => vec![read.number.to_string()],
+        Answer::Field(field) => vec![format!("{:?}", field.found)],
+        Answer::Line(line) => vec![line.number.to_string()],
         Answer::Offers(_, verdicts) => verdicts.iter().map(|(verdict, _)| format!("{verdict:?}")).collect(),
         Answer::Listing(text) => {
             let lines: Vec<&str> = text.lines().skip(1).collect();
             lines
                 .iter()
-                .map(
-                    |line| {
-                        if line.starts_with(['e', 'c']) {
-                            &line[..3]
-                        } else {
-                            line.rsplit(' ').next().unwrap()
-                        }
-                    },
-                )
+                .map(|line| if line.starts_with(['e', 'c']) { &line[..3] } else { line.rsplit(' ').next().unwrap() })
                 .map(String::from)
                 .collect()
         }
         Answer::Written(number, ..)
         | Answer::Part(number, ..)
         | Answer::Place(number, ..)
+        | Answer::Text(number, _)
         | Answer::Tag(number, _)
         | Answer::TagBytes(number, _)
         | Answer::Elapsed(number, _)
@@ -300,18 +354,11 @@ fn labels(answer: &Answer) -> Vec<String> {
     }
 }
 
-fn first_difference<T: PartialEq + std::fmt::UpperHex>(
-    name: &str,
-    ours: &Lent<T>,
-    theirs: &Lent<T>,
-) -> String {
+fn first_difference<T: PartialEq + std::fmt::UpperHex>(name: &str, ours: &Lent<T>, theirs: &Lent<T>) -> String {
     for (place, (our, their)) in ours.space.iter().zip(&theirs.space).enumerate() {
         if our != their {
             let at = place as i64 - ours.front as i64;
-            return format!(
-                "  {name} afterwards, at {at} of {}: model {our:X}, library {their:X}\n",
-                ours.length
-            );
+            return format!("  {name} afterwards, at {at} of {}: model {our:X}, library {their:X}\n", ours.length);
         }
     }
     String::new()
@@ -380,13 +427,7 @@ pub fn case_of(seed: u64, number: u64) -> Case {
 }
 
 /// Cases `first` up to `end` of a seed; stops at the first difference.
-pub fn compare(
-    library: &dyn Library,
-    seed: u64,
-    first: u64,
-    end: u64,
-    tally: &mut Tally,
-) -> Result<(), String> {
+pub fn compare(library: &dyn Library, seed: u64, first: u64, end: u64, tally: &mut Tally) -> Result<(), String> {
     for number in first..end {
         let case = case_of(seed, number);
         let ours = run(&Model, &case);
@@ -465,33 +506,33 @@ pub fn compare_headers(library: &dyn Library) -> Result<u64, String> {
 pub fn compare_words(library: &dyn Library, seed: u64, count: u64) -> Result<u64, String> {
     for case in 0..count {
         let mut dice = Dice::for_case(seed, case);
-        let size = if dice.one_in(8) {
-            dice.pick(&[0, 17, 256, 266, 65_546, u32::MAX])
-        } else {
-            dice.between(1, 16) as u32
-        };
+        let size =
+            if dice.one_in(8) { dice.pick(&[0, 17, 256, 266, 65_546, u32::MAX]) } else { dice.between(1, 16) as u32 };
         let field: Vec<u8> = (0..dice.below(41)).map(|_| dice.byte()).collect();
         let fit = 8 * field.len() / size.clamp(1, 16) as usize;
         let asked = if dice.one_in(16) { usize::MAX - dice.below(3) } else { dice.below(fit + 2) };
         let room = vec![0x5A5A; (fit + 1).saturating_sub(dice.below(4))];
         let (mut ours, mut theirs) = (room.clone(), room);
-        let taken = (
-            Model.take_words(&field, size, asked, &mut ours),
-            library.take_words(&field, size, asked, &mut theirs),
-        );
+        let taken =
+            (Model.take_words(&field, size, asked, &mut ours), library.take_words(&field, size, asked, &mut theirs));
         let most = if dice.one_in(4) { 65_536 } else { 1 << size.clamp(1, 16) };
         let words: Vec<u16> = (0..dice.below(fit + 2)).map(|_| dice.below(most) as u16).collect();
         let (mut by_us, mut by_them) = (field.clone(), field.clone());
-        let put = (
-            Model.put_words(&words, size, &mut by_us),
-            library.put_words(&words, size, &mut by_them),
-        );
+        let put = (Model.put_words(&words, size, &mut by_us), library.put_words(&words, size, &mut by_them));
         if taken.0 != taken.1 || ours != theirs || put.0 != put.1 || by_us != by_them {
             return Err(format!(
                 "difference in words of {size} bits\n  {asked} out of {}\n  model:   {} {}\n  library: {} {}\n  \
                  {} into it\n  model:   {} {}\n  library: {} {}\n",
-                hex(&field), taken.0, hex_words(&ours), taken.1, hex_words(&theirs),
-                hex_words(&words), put.0, hex(&by_us), put.1, hex(&by_them)
+                hex(&field),
+                taken.0,
+                hex_words(&ours),
+                taken.1,
+                hex_words(&theirs),
+                hex_words(&words),
+                put.0,
+                hex(&by_us),
+                put.1,
+                hex(&by_them)
             ));
         }
     }

@@ -189,20 +189,12 @@ pub fn trainee_errors(library: &dyn Library, found: &mut Findings) {
     let mut damaged = block.clone();
     damaged[7] ^= 1;
     let answer = library.read(&damaged, &mut [0; 20]);
-    found.expect(
-        "copy 1 damaged",
-        (answer.number, answer.header, answer.copies),
-        (0, lent, [false, true, true]),
-    );
+    found.expect("copy 1 damaged", (answer.number, answer.header, answer.copies), (0, lent, [false, true, true]));
 
     // Two copies damaged alike outvote the only one that passes.
     damaged[37] ^= 1;
     let answer = library.read(&damaged, &mut [0; 20]);
-    found.expect(
-        "two copies alike",
-        (answer.number, answer.header, answer.copies),
-        (0, lent, [false, false, true]),
-    );
+    found.expect("two copies alike", (answer.number, answer.header, answer.copies), (0, lent, [false, false, true]));
 
     // Low bits first, 1 would be read as 64.
     let mut room = [0; 20];

@@ -94,8 +94,7 @@ fn pixels(dice: &mut Dice) -> usize {
     match dice.below(20) {
         0..=8 => dice.between(1, 40),
         9..=11 => dice.pick(&[
-            1, 2, 3, 4, 519, 520, 521, 522, 531, 532, 533, 534, 697, 698, 699, 700, 701, TWO_LESS, ONE_LESS,
-            LARGEST_N,
+            1, 2, 3, 4, 519, 520, 521, 522, 531, 532, 533, 534, 697, 698, 699, 700, 701, TWO_LESS, ONE_LESS, LARGEST_N,
         ]),
         12..=14 => dice.between(500, 720),
         15..=18 => dice.between(1, 1_500),
@@ -136,8 +135,7 @@ pub fn draft(dice: &mut Dice) -> Draft {
         11 => dice.pick(&[(6, 10_720), (8, 8_040), (10, 6_432)]),
         _ => (10, rows::c_of_n(block, pixels(dice))),
     };
-    let mut header: [u8; HEADER] =
-        if dice.one_in(4) { [0; HEADER] } else { dice.bytes(HEADER).try_into().unwrap() };
+    let mut header: [u8; HEADER] = if dice.one_in(4) { [0; HEADER] } else { dice.bytes(HEADER).try_into().unwrap() };
     header[0] = rows::id_of_block(block);
     header[1] = size as u8;
     put_count(&mut header, (c + header::COUNT_ADDS) as u16);
@@ -573,8 +571,8 @@ pub fn digits(tag: &Tag) -> [u8; 8] {
 fn some_year(dice: &mut Dice) -> u16 {
     match dice.below(3) {
         0 => dice.pick(&[
-            0, 1, 3, 4, 99, 100, 101, 399, 400, 401, 1600, 1899, 1900, 1999, 2000, 2001, 2004, 2007, 2008,
-            2009, 2100, 2400, 4000, 8000, 9996, 9999,
+            0, 1, 3, 4, 99, 100, 101, 399, 400, 401, 1600, 1899, 1900, 1999, 2000, 2001, 2004, 2007, 2008, 2009, 2100,
+            2400, 4000, 8000, 9996, 9999,
         ]),
         1 => dice.between(1990, 2040) as u16,
         _ => dice.below(10_000) as u16,
@@ -775,11 +773,8 @@ fn offers_case(dice: &mut Dice) -> Case {
         } else {
             0
         };
-        let tag = if noisy(dice) && dice.one_in(2) {
-            lent_tag(dice)
-        } else {
-            digits(&tag_at(now, dice.one_in(4))).to_vec()
-        };
+        let tag =
+            if noisy(dice) && dice.one_in(2) { lent_tag(dice) } else { digits(&tag_at(now, dice.one_in(4))).to_vec() };
         watch::offer(&mut watch, block, &tag);
         offers.push((block, tag));
     }
@@ -790,16 +785,13 @@ fn offers_case(dice: &mut Dice) -> Case {
 
 /// Words at a section's edge, or between the third and the fourth parity word.
 const EDGES: [usize; 26] = [
-    1, 221, 222, 223, 700, 701, 702, 703, 1180, 1181, 1182, 1183, 1184, 2925, 2926, 2927, 2928, 7901, 7902,
-    7903, 7904, 7905, 7906, 7907, 8039, 8040,
+    1, 221, 222, 223, 700, 701, 702, 703, 1180, 1181, 1182, 1183, 1184, 2925, 2926, 2927, 2928, 7901, 7902, 7903, 7904,
+    7905, 7906, 7907, 8039, 8040,
 ];
 
 fn parity_words(dice: &mut Dice, sections: &[(usize, usize, usize)]) -> Vec<u16> {
-    let mut words: Vec<u16> = if dice.one_in(4) {
-        vec![0; 8_040]
-    } else {
-        dice.bytes(8_040).iter().map(|&byte| byte as u16).collect()
-    };
+    let mut words: Vec<u16> =
+        if dice.one_in(4) { vec![0; 8_040] } else { dice.bytes(8_040).iter().map(|&byte| byte as u16).collect() };
     for &(first, last, parity) in sections {
         words[parity - 1] = words[first - 1..last].iter().fold(0, |sum, word| sum ^ word);
         if dice.one_in(5) {
@@ -871,9 +863,81 @@ pub fn recording(dice: &mut Dice) -> Vec<u8> {
     bytes
 }
 
+fn next_field_case(dice: &mut Dice) -> Case {
+    let recording = recording(dice);
+    let length = recording.len();
+    // where a field begins, or anywhere
+    let at = if dice.one_in(2) {
+        let mut begins = vec![0];
+        while let Some(front) = recording.get(begins[begins.len() - 1]..).and_then(|rest| rest.first_chunk::<3>()) {
+            begins.push(begins[begins.len() - 1] + 3 + u16::from_be_bytes([front[1], front[2]]) as usize);
+        }
+        dice.pick(&begins)
+    } else {
+        match dice.below(8) {
+            0 => length,
+            1 => length + dice.between(1, 5),
+            2 => usize::MAX - dice.below(4),
+            3 => length.saturating_sub(dice.between(1, 4)),
+            _ => dice.below(length + 1),
+        }
+    };
+    Case::NextField { recording, at, shift: dice.below(8) }
+}
+
+/// Any count, often at an edge of one.
+fn some_count(dice: &mut Dice) -> u64 {
+    match dice.below(5) {
+        0 => dice.pick(&[0, 1, 9, 10, 99, 100, u32::MAX as u64, u32::MAX as u64 + 1, 1 << 63]),
+        1 => u64::MAX - dice.below(3) as u64,
+        2 => 10u64.pow(dice.below(20) as u32) - dice.below(2) as u64,
+        _ => dice.roll() >> dice.below(64),
+    }
+}
+
+fn line_case(dice: &mut Dice) -> Case {
+    let body = if dice.one_in(10) { vec![] } else { block(dice) };
+    let tag = if dice.one_in(4) { dice.pick(&[0, 2, 255, 256, 257, 65_537, u32::MAX]) } else { 1 };
+    let needed = announced(&body).unwrap_or_else(|| dice.below(200));
+    let length = length_near(dice, needed);
+    Case::Line { before: some_count(dice), tag, body, room: dice.pattern(length), shift: dice.below(8) }
+}
+
+/// Room for a line, too little of it often.
+fn text_room(dice: &mut Dice) -> Vec<u8> {
+    let length = match dice.below(4) {
+        0 => dice.pick(&[0, 1, 30, 31, 32, 104, 105, 106, 200]),
+        1 => dice.below(106),
+        2 => dice.between(5, 40),
+        _ => 105,
+    };
+    dice.bytes(length)
+}
+
+fn line_text_case(dice: &mut Dice) -> Case {
+    let byte = |dice: &mut Dice| match dice.below(4) {
+        0 => dice.pick(&[0, 9, 10, 99, 100, 255, 256, 257, 65_536, u32::MAX]),
+        1 => dice.roll() as u32,
+        _ => dice.below(12) as u32,
+    };
+    Case::LineText {
+        seq: some_count(dice),
+        block: byte(dice),
+        version: byte(dice),
+        words: some_count(dice) as usize,
+        answer: if dice.one_in(2) { 0 } else { byte(dice) },
+        room: text_room(dice),
+    }
+}
+
+fn last_text_case(dice: &mut Dice) -> Case {
+    let cut = if dice.one_in(3) { dice.pick(&[2, 255, 256, u32::MAX]) } else { dice.below(2) as u32 };
+    Case::LastText { cut, fields: some_count(dice), room: text_room(dice) }
+}
+
 /// One case of any kind; blocks most often.
 pub fn case(dice: &mut Dice) -> Case {
-    match dice.below(100) {
+    match dice.below(110) {
         0..=34 => read_case(dice),
         35..=49 => write_case(dice),
         50..=57 => record_case(dice),
@@ -886,6 +950,11 @@ pub fn case(dice: &mut Dice) -> Case {
         89..=91 => imager_case(dice),
         92..=93 => sounder_case(dice),
         94..=97 => Case::List { recording: recording(dice) },
+        98..=100 => next_field_case(dice),
+        101..=103 => line_case(dice),
+        104 => Case::FirstText { room: text_room(dice) },
+        105..=106 => line_text_case(dice),
+        107 => last_text_case(dice),
         _ => {
             let length = dice.below(3_000);
             Case::CheckWord { bytes: dice.bytes(length) }
@@ -900,8 +969,7 @@ mod tests {
 
     #[test]
     fn the_end_of_time() {
-        let last =
-            Tag { year: 9999, day: 365, hour: 23, minute: 59, second: 59, millisecond: 999, flywheel: false };
+        let last = Tag { year: 9999, day: 365, hour: 23, minute: 59, second: 59, millisecond: 999, flywheel: false };
         assert_eq!(last.time(), LAST_TIME);
         assert_eq!(tag_at(LAST_TIME, false), last);
         assert_eq!(tag_at(0, false), Tag { day: 1, ..Tag::default() });

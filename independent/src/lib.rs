@@ -11,7 +11,7 @@ pub mod inputs;
 pub mod library;
 pub mod parity;
 pub mod placement;
-#[cfg(real)]
+#[cfg(feature = "library")]
 pub mod real;
 pub mod recording;
 pub mod rows;

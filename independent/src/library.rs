@@ -1,6 +1,7 @@
 //! Everything a library of this kind answers, as plain functions. `Model` is
 //! the one written here; another is compared with it through the same trait.
 
+use crate::rows::LARGEST_C;
 use crate::tags::Tag;
 use crate::watch::{Verdict, Watch};
 use crate::{block, check, parity, placement, recording, tags, watch, words};
@@ -16,6 +17,44 @@ pub struct ReadAnswer {
 impl ReadAnswer {
     pub fn refused(number: u8) -> ReadAnswer {
         ReadAnswer { number, header: [0; 28], copies: [false; 3], words: 0 }
+    }
+}
+
+/// What stands in a recording from a byte on.
+#[derive(Clone, Copy, Debug, PartialEq, Eq)]
+pub enum Found {
+    End,
+    Field,
+    Cut,
+}
+
+/// A field that was found: its tag, and where its body starts and how long it is.
+#[derive(Clone, Copy, Debug, PartialEq, Eq)]
+pub struct FieldAnswer {
+    pub found: Found,
+    pub tag: u8,
+    pub start: usize,
+    pub length: usize,
+}
+
+impl FieldAnswer {
+    pub fn none(found: Found) -> FieldAnswer {
+        FieldAnswer { found, tag: 0, start: 0, length: 0 }
+    }
+}
+
+#[derive(Clone, Copy, Debug, PartialEq, Eq)]
+pub struct LineAnswer {
+    pub number: u8,
+    pub seq: u64,
+    pub block: u8,
+    pub version: u8,
+    pub words: usize,
+}
+
+impl LineAnswer {
+    pub fn refused(seq: u64, number: u8) -> LineAnswer {
+        LineAnswer { number, seq, block: 0, version: 0, words: 0 }
     }
 }
 
@@ -37,7 +76,38 @@ pub trait Library {
     fn offer(&self, watch: &mut Watch, block: u8, tag: &[u8]) -> Verdict;
     fn imager(&self, words: &[u16]) -> (u8, [bool; 4]);
     fn sounder(&self, words: &[u16]) -> (u8, [bool; 2]);
+    fn next_field(&self, recording: &[u8], at: usize) -> FieldAnswer;
+    fn line(&self, before: u64, tag: u32, body: &[u8], room: &mut [u16]) -> LineAnswer;
+    /// Number, bytes written; so for each text.
+    fn first_text(&self, room: &mut [u8]) -> (u8, usize);
+    fn line_text(&self, seq: u64, block: u32, version: u32, words: usize, answer: u32, room: &mut [u8]) -> (u8, usize);
+    fn last_text(&self, cut: u32, fields: u64, room: &mut [u8]) -> (u8, usize);
+
     fn list(&self, recording: &[u8]) -> String;
+}
+
+/// The listing of a recording as a caller makes it, field by field and line by line.
+pub fn list_by_lines(library: &dyn Library, recording: &[u8]) -> String {
+    let mut text = Vec::new();
+    let mut room = vec![0; LARGEST_C];
+    let mut spelt = [0; 105];
+    let (_, bytes) = library.first_text(&mut spelt);
+    text.extend(&spelt[..bytes]);
+    let (mut fields, mut at) = (0, 0);
+    loop {
+        let field = library.next_field(recording, at);
+        if field.found != Found::Field {
+            let (_, bytes) = library.last_text((field.found == Found::Cut).into(), fields, &mut spelt);
+            text.extend(&spelt[..bytes]);
+            return String::from_utf8_lossy(&text).into();
+        }
+        at = field.start + field.length;
+        let LineAnswer { number, seq, block, version, words } =
+            library.line(fields, field.tag.into(), &recording[field.start..at], &mut room);
+        fields = seq;
+        let (_, bytes) = library.line_text(seq, block.into(), version.into(), words, number.into(), &mut spelt);
+        text.extend(&spelt[..bytes]);
+    }
 }
 
 pub struct Model;
@@ -84,6 +154,21 @@ impl Library for Model {
     }
     fn sounder(&self, words: &[u16]) -> (u8, [bool; 2]) {
         parity::sounder(words)
+    }
+    fn next_field(&self, recording: &[u8], at: usize) -> FieldAnswer {
+        recording::next_field(recording, at)
+    }
+    fn line(&self, before: u64, tag: u32, body: &[u8], room: &mut [u16]) -> LineAnswer {
+        recording::line(before, tag, body, room)
+    }
+    fn first_text(&self, room: &mut [u8]) -> (u8, usize) {
+        recording::first_text(room)
+    }
+    fn line_text(&self, seq: u64, block: u32, version: u32, words: usize, answer: u32, room: &mut [u8]) -> (u8, usize) {
+        recording::line_text(seq, block, version, words, answer, room)
+    }
+    fn last_text(&self, cut: u32, fields: u64, room: &mut [u8]) -> (u8, usize) {
+        recording::last_text(cut, fields, room)
     }
     fn list(&self, recording: &[u8]) -> String {
         recording::list(recording)

@@ -1,13 +1,12 @@
-//! compare SEED COUNT [FAULT]: the model against the library that it was linked
-//! with. Linked with none it is the model itself; with a fault (a number from 1)
-//! it is one that is wrong on purpose. Exit status 1 on a difference, 2 on bad
-//! arguments.
+//! compare SEED COUNT [FAULT]: the model against the library, or, with a fault (a number from 1), against one that is wrong on purpose.
+//! Exit status 1 on a difference, 2 on bad arguments.
 
 use std::process::ExitCode;
 
 use independent::compare::{compare, compare_headers, compare_placements, compare_words, Tally};
 use independent::document;
 use independent::library::Library;
+use independent::real::Real;
 use independent::wrong::{Wrong, FAULTS};
 
 fn usage() -> ExitCode {
@@ -15,21 +14,10 @@ fn usage() -> ExitCode {
     ExitCode::from(2)
 }
 
-#[cfg(real)]
-fn on_trial() -> Box<dyn Library> {
-    Box::new(independent::real::Real)
-}
-
-#[cfg(not(real))]
-fn on_trial() -> Box<dyn Library> {
-    println!("no library is linked: the model stands for it");
-    Box::new(independent::library::Model)
-}
-
 fn main() -> ExitCode {
     let numbers: Option<Vec<u64>> = std::env::args().skip(1).map(|text| text.parse().ok()).collect();
     let (seed, count, library): (u64, u64, Box<dyn Library>) = match numbers.as_deref() {
-        Some([seed, count]) => (*seed, *count, on_trial()),
+        Some([seed, count]) => (*seed, *count, Box::new(Real)),
         Some([seed, count, fault]) if (1..=FAULTS.len() as u64).contains(fault) => {
             let fault = FAULTS[*fault as usize - 1];
             println!("library on trial: {fault}");

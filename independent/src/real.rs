@@ -1,43 +1,11 @@
-//! The library itself, through its C interface. The declarations are those of include/rahmisve.h.
+//! The library itself, through its C interface. What is given back is filled before each call, so that a place left unwritten shows.
+
+use rahmisve_sys::*;
 
 use crate::inputs::LARGEST_K;
-use crate::library::{Library, ReadAnswer};
-use crate::rows::LARGEST_C;
+use crate::library::{list_by_lines, FieldAnswer, Found, Library, LineAnswer, ReadAnswer};
 use crate::tags::Tag;
 use crate::watch::{Verdict, Watch};
-
-extern "C" {
-    fn rahmisve_check_word(message: *const u8, length: usize) -> u16;
-    fn rahmisve_take_words(
-        field: *const u8, field_length: usize, size: u32, count: usize, room: *mut u16, room_length: usize,
-    ) -> u8;
-    fn rahmisve_put_words(
-        words: *const u16, words_length: usize, size: u32, field: *mut u8, field_length: usize,
-    ) -> u8;
-    fn rahmisve_read(
-        block: *const u8, block_length: usize, room: *mut u16, room_length: usize,
-        header: *mut [u8; 28], copies: *mut [u8; 3], words: *mut usize,
-    ) -> u8;
-    fn rahmisve_plan(
-        header: *const u8, length: usize, block: *mut u8, version: *mut u8, size: *mut u8,
-        records: *mut u8, words: *mut usize, field: *mut usize,
-    ) -> u8;
-    fn rahmisve_write(
-        header: *const u8, header_length: usize, words: *const u16, words_length: usize,
-        room: *mut u8, room_length: usize, bytes: *mut usize,
-    ) -> u8;
-    fn rahmisve_record(
-        header: *const u8, length: usize, words: usize, record: u32, start: *mut usize, part: *mut usize,
-    ) -> u8;
-    fn rahmisve_place(block: u32, version: u32, record: u32, channel: *mut u8, detector: *mut u8) -> u8;
-    fn rahmisve_parity_imager(words: *const u16, length: usize, holds: *mut [u8; 4]) -> u8;
-    fn rahmisve_parity_sounder(words: *const u16, length: usize, holds: *mut [u8; 2]) -> u8;
-    fn rahmisve_read_tag(tag: *const u8, length: usize, time: *mut [u32; 7]) -> u8;
-    fn rahmisve_write_tag(time: *const [u32; 7], tag: *mut [u8; 8]) -> u8;
-    fn rahmisve_elapsed(from: *const u8, from_length: usize, to: *const u8, to_length: usize, ms: *mut i64) -> u8;
-    fn rahmisve_watch_begin(limit: u32, watch: *mut [u32; 10]) -> u8;
-    fn rahmisve_watch_offer(watch: *mut [u32; 10], block: u32, tag: *const u8, length: usize, verdict: *mut u8) -> u8;
-}
 
 fn numbers(tag: &Tag) -> [u32; 7] {
     [
@@ -89,12 +57,16 @@ impl Library for Real {
         unsafe { rahmisve_put_words(words.as_ptr(), words.len(), size, field.as_mut_ptr(), field.len()) }
     }
     fn read(&self, block: &[u8], room: &mut [u16]) -> ReadAnswer {
-        // what is given back is filled before, so that a place left unwritten shows
         let (mut header, mut copies, mut words) = ([0x5A; 28], [0x5A; 3], 0x5A5A);
         let number = unsafe {
             rahmisve_read(
-                block.as_ptr(), block.len(), room.as_mut_ptr(), room.len(),
-                &mut header, &mut copies, &mut words,
+                block.as_ptr(),
+                block.len(),
+                room.as_mut_ptr(),
+                room.len(),
+                &mut header,
+                &mut copies,
+                &mut words,
             )
         };
         assert!(copies.iter().all(|copy| *copy < 2), "a mark is 0 or 1");
@@ -104,8 +76,13 @@ impl Library for Real {
         let mut bytes = 0x5A5A;
         let number = unsafe {
             rahmisve_write(
-                header.as_ptr(), header.len(), words.as_ptr(), words.len(),
-                dest.as_mut_ptr(), dest.len(), &mut bytes,
+                header.as_ptr(),
+                header.len(),
+                words.as_ptr(),
+                words.len(),
+                dest.as_mut_ptr(),
+                dest.len(),
+                &mut bytes,
             )
         };
         (number, bytes)
@@ -113,16 +90,14 @@ impl Library for Real {
     fn record(&self, header: &[u8], words: &[u16], k: usize) -> (u8, usize, usize) {
         assert!(k <= LARGEST_K);
         let (mut start, mut length) = (0x5A5A, 0x5A5A);
-        let number = unsafe {
-            rahmisve_record(header.as_ptr(), header.len(), words.len(), k as u32, &mut start, &mut length)
-        };
+        let number =
+            unsafe { rahmisve_record(header.as_ptr(), header.len(), words.len(), k as u32, &mut start, &mut length) };
         (number, start, length)
     }
     fn place(&self, block: u8, version: u8, record: u8) -> (u8, u8, u8) {
         let (mut channel, mut detector) = (0x5A, 0x5A);
-        let number = unsafe {
-            rahmisve_place(block.into(), version.into(), record.into(), &mut channel, &mut detector)
-        };
+        let number =
+            unsafe { rahmisve_place(block.into(), version.into(), record.into(), &mut channel, &mut detector) };
         (number, channel, detector)
     }
     fn read_tag(&self, bytes: &[u8]) -> (u8, Tag) {
@@ -137,9 +112,7 @@ impl Library for Real {
     }
     fn elapsed(&self, first: &[u8], second: &[u8]) -> (u8, i64) {
         let mut ms = 0x5A5A;
-        let number = unsafe {
-            rahmisve_elapsed(first.as_ptr(), first.len(), second.as_ptr(), second.len(), &mut ms)
-        };
+        let number = unsafe { rahmisve_elapsed(first.as_ptr(), first.len(), second.as_ptr(), second.len(), &mut ms) };
         (number, ms)
     }
     fn begin(&self, limit: u32) -> (u8, Watch) {
@@ -154,9 +127,7 @@ impl Library for Real {
     fn offer(&self, watch: &mut Watch, block: u8, tag: &[u8]) -> Verdict {
         let mut record = record_of(watch);
         let mut verdict = 0x5A;
-        let number = unsafe {
-            rahmisve_watch_offer(&mut record, block.into(), tag.as_ptr(), tag.len(), &mut verdict)
-        };
+        let number = unsafe { rahmisve_watch_offer(&mut record, block.into(), tag.as_ptr(), tag.len(), &mut verdict) };
         *watch = watch_of(&record);
         match verdict {
             0 => Verdict::Refused(number),
@@ -180,39 +151,53 @@ impl Library for Real {
         let number = unsafe { rahmisve_parity_sounder(words.as_ptr(), words.len(), &mut holds) };
         (number, holds.map(|section| section != 0))
     }
-    /// The listing as a caller makes it of the reader and the plan; the program itself is tried by tests/list.test.
+    fn next_field(&self, recording: &[u8], at: usize) -> FieldAnswer {
+        let (mut tag, mut start, mut length) = (0x5A, 0x5A5A, 0x5A5A);
+        let found =
+            unsafe { rahmisve_next_field(recording.as_ptr(), recording.len(), at, &mut tag, &mut start, &mut length) };
+        let found = match found {
+            0 => Found::End,
+            1 => Found::Field,
+            2 => Found::Cut,
+            _ => panic!("found {found}"),
+        };
+        FieldAnswer { found, tag, start, length }
+    }
+    fn line(&self, before: u64, tag: u32, body: &[u8], room: &mut [u16]) -> LineAnswer {
+        let (mut seq, mut block, mut version, mut words) = (0x5A5A, 0x5A, 0x5A, 0x5A5A);
+        let number = unsafe {
+            rahmisve_line(
+                before,
+                tag,
+                body.as_ptr(),
+                body.len(),
+                room.as_mut_ptr(),
+                room.len(),
+                &mut seq,
+                &mut block,
+                &mut version,
+                &mut words,
+            )
+        };
+        LineAnswer { number, seq, block, version, words }
+    }
+    fn first_text(&self, room: &mut [u8]) -> (u8, usize) {
+        let mut bytes = 0x5A5A;
+        let number = unsafe { rahmisve_first_text(room.as_mut_ptr(), room.len(), &mut bytes) };
+        (number, bytes)
+    }
+    fn line_text(&self, seq: u64, block: u32, version: u32, words: usize, answer: u32, room: &mut [u8]) -> (u8, usize) {
+        let mut bytes = 0x5A5A;
+        let (place, length) = (room.as_mut_ptr(), room.len());
+        let number = unsafe { rahmisve_line_text(seq, block, version, words, answer, place, length, &mut bytes) };
+        (number, bytes)
+    }
+    fn last_text(&self, cut: u32, fields: u64, room: &mut [u8]) -> (u8, usize) {
+        let mut bytes = 0x5A5A;
+        let number = unsafe { rahmisve_last_text(cut, fields, room.as_mut_ptr(), room.len(), &mut bytes) };
+        (number, bytes)
+    }
     fn list(&self, recording: &[u8]) -> String {
-        let mut lines = String::from("seq block version words answer\n");
-        let mut room = vec![0; LARGEST_C];
-        let mut rest = recording;
-        for seq in 1.. {
-            if rest.is_empty() {
-                return lines + &format!("end {}\n", seq - 1);
-            }
-            if rest.len() < 3 || rest.len() < 3 + 256 * rest[1] as usize + rest[2] as usize {
-                return lines + &format!("cut {}\n", seq - 1);
-            }
-            let (field, more) = rest.split_at(3 + 256 * rest[1] as usize + rest[2] as usize);
-            rest = more;
-            let answer = self.read(&field[3..], &mut room);
-            let line = match (field[0], answer.number) {
-                (1, 0) => {
-                    let (mut block, mut version, mut size, mut records) = (0, 0, 0, 0);
-                    let (mut words, mut bytes) = (0, 0);
-                    let header = answer.header;
-                    unsafe {
-                        rahmisve_plan(
-                            header.as_ptr(), header.len(), &mut block, &mut version, &mut size,
-                            &mut records, &mut words, &mut bytes,
-                        )
-                    };
-                    format!("{block} {version} {words} 0")
-                }
-                (1, number) => format!("- - - {number}"),
-                _ => "- - - 15".into(),
-            };
-            lines += &format!("{seq} {line}\n");
-        }
-        unreachable!()
+        list_by_lines(self, recording)
     }
 }

@@ -99,10 +99,8 @@ pub fn write_tag(tag: &Tag) -> (u8, [u8; 8]) {
     if !tag.in_bounds() {
         return (12, [0; 8]);
     }
-    let digits = format!(
-        "{:04}{:03}{:02}{:02}{:02}{:03}",
-        tag.year, tag.day, tag.hour, tag.minute, tag.second, tag.millisecond
-    );
+    let digits =
+        format!("{:04}{:03}{:02}{:02}{:02}{:03}", tag.year, tag.day, tag.hour, tag.minute, tag.second, tag.millisecond);
     let mut bytes = [0; 8];
     for (index, digit) in digits.bytes().enumerate() {
         bytes[index / 2] = 16 * bytes[index / 2] + (digit - b'0');

@@ -3,12 +3,12 @@
 
 use crate::check::check_bytes;
 use crate::header::{meaning, passing, sealed, HEADER};
-use crate::library::{Library, Model, ReadAnswer};
+use crate::library::{FieldAnswer, Found, Library, LineAnswer, Model, ReadAnswer};
 use crate::tags::{self, Tag};
 use crate::watch::{Verdict, Watch};
 use crate::{rows, words};
 
-pub const FAULTS: [&str; 52] = [
+pub const FAULTS: [&str; 60] = [
     "takes copy 1 unread",
     "votes without the check",
     "unpacks ten-bit words low bits first",
@@ -61,6 +61,14 @@ pub const FAULTS: [&str; 52] = [
     "loses the flywheel mark of a kept tag",
     "takes a size of 256 more as the size",
     "leaves the fill of a lent field",
+    "takes a length low byte first",
+    "gives the tag of a field that is cut",
+    "takes the last field as cut",
+    "takes a tag of 256 more as the tag",
+    "counts a field as the one before it",
+    "spells the numbers of a refused line",
+    "spells an answer of 256 as accepted",
+    "writes what fits of a text",
 ];
 
 pub struct Wrong(pub &'static str);
@@ -190,8 +198,7 @@ impl Library for Wrong {
             dest.copy_within(written - 2..written, written - 3);
             return (0, written - 1);
         }
-        if self.is("tests 14 before 9 in the writer") && number == 9 && words.iter().any(|&word| word > 1_023)
-        {
+        if self.is("tests 14 before 9 in the writer") && number == 9 && words.iter().any(|&word| word > 1_023) {
             return (14, 0);
         }
         if self.is("clears the destination behind the block") && number == 0 {
@@ -249,8 +256,7 @@ impl Library for Wrong {
         if self.is("gives elapsed time without sign") {
             return (number, time.abs());
         }
-        if self.is("lets the flywheel mark into elapsed time") && number == 0 && first[2] ^ second[2] >= 0x80
-        {
+        if self.is("lets the flywheel mark into elapsed time") && number == 0 && first[2] ^ second[2] >= 0x80 {
             return (0, time + 1);
         }
         (number, time)
@@ -312,9 +318,7 @@ impl Library for Wrong {
             }
             ("tests the limit of a lent record last", Verdict::Refused(16)) => {
                 let within = Watch { limit: 0, ..before };
-                if let Verdict::Refused(number) =
-                    Model.offer(&mut { within }, 0, &[0, 0, 0, 0x10, 0, 0, 0, 0])
-                {
+                if let Verdict::Refused(number) = Model.offer(&mut { within }, 0, &[0, 0, 0, 0x10, 0, 0, 0, 0]) {
                     return Verdict::Refused(number);
                 }
             }
@@ -345,6 +349,55 @@ impl Library for Wrong {
 
     fn sounder(&self, words: &[u16]) -> (u8, [bool; 2]) {
         Model.sounder(words)
+    }
+
+    fn next_field(&self, recording: &[u8], at: usize) -> FieldAnswer {
+        let answer = Model.next_field(recording, at);
+        let rest = recording.get(at..).unwrap_or(&[]);
+        match (self.0, answer.found) {
+            ("takes a length low byte first", Found::Field) => {
+                let mut other = recording.to_vec();
+                other.swap(at + 1, at + 2);
+                Model.next_field(&other, at)
+            }
+            ("gives the tag of a field that is cut", Found::Cut) => FieldAnswer { tag: rest[0], ..answer },
+            ("takes the last field as cut", Found::Field) if rest.len() == 3 + answer.length => {
+                FieldAnswer::none(Found::Cut)
+            }
+            _ => answer,
+        }
+    }
+
+    fn line(&self, before: u64, tag: u32, body: &[u8], room: &mut [u16]) -> LineAnswer {
+        let tag = if self.is("takes a tag of 256 more as the tag") { tag % 256 } else { tag };
+        let answer = Model.line(before, tag, body, room);
+        let seq = if self.is("counts a field as the one before it") { before } else { answer.seq };
+        LineAnswer { seq, ..answer }
+    }
+
+    fn first_text(&self, room: &mut [u8]) -> (u8, usize) {
+        Model.first_text(room)
+    }
+
+    fn line_text(&self, seq: u64, block: u32, version: u32, words: usize, answer: u32, room: &mut [u8]) -> (u8, usize) {
+        if self.is("spells the numbers of a refused line") && answer != 0 {
+            let text = format!("{seq} {block} {version} {words} {answer}\n");
+            let bytes = text.len().min(room.len());
+            room[..bytes].copy_from_slice(&text.as_bytes()[..bytes]);
+            return (0, bytes);
+        }
+        let answer = if self.is("spells an answer of 256 as accepted") { answer % 256 } else { answer };
+        Model.line_text(seq, block, version, words, answer, room)
+    }
+
+    fn last_text(&self, cut: u32, fields: u64, room: &mut [u8]) -> (u8, usize) {
+        let (number, bytes) = Model.last_text(cut, fields, room);
+        if self.is("writes what fits of a text") && number == 9 {
+            let mut whole = [0; 105];
+            Model.last_text(cut, fields, &mut whole);
+            room.copy_from_slice(&whole[..room.len()]);
+        }
+        (number, bytes)
     }
 
     fn list(&self, recording: &[u8]) -> String {

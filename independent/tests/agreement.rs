@@ -5,7 +5,7 @@ use independent::check::check_word;
 use independent::compare::{case_of, compare, compare_placements, compare_words, run, Answer, Case, Tally};
 use independent::document::{self, Findings};
 use independent::inputs::{self, Dice};
-use independent::library::{Library, Model};
+use independent::library::{list_by_lines, Library, Model};
 use independent::rows;
 use independent::watch::Verdict;
 use independent::wrong::{Wrong, FAULTS};
@@ -54,7 +54,7 @@ fn every_fault_is_found() {
 fn every_answer_is_met() {
     let mut tally = Tally::default();
     compare(&Model, 7, 0, 30_000, &mut tally).unwrap();
-    let expected: [(&str, &[&str]); 11] = [
+    let expected: [(&str, &[&str]); 16] = [
         ("read", &["0", "1", "2", "3", "4", "5", "6", "7", "8", "9", "10", "11"]),
         ("write", &["0", "1", "4", "5", "6", "7", "8", "9", "14"]),
         ("record", &["0", "1", "4", "5", "6", "7", "9", "13"]),
@@ -80,12 +80,26 @@ fn every_answer_is_met() {
             ],
         ),
         ("imager", &["0", "8", "14"]),
+        ("next field", &["End", "Field", "Cut"]),
+        ("line", &["0", "1", "2", "3", "8", "9", "10", "15"]),
+        ("first text", &["0", "9"]),
+        ("line text", &["0", "9"]),
+        ("last text", &["0", "9"]),
         ("list", &["0", "1", "2", "3", "4", "5", "6", "7", "8", "10", "11", "15", "cut", "end"]),
     ];
     for (kind, labels) in expected {
         for label in labels {
             assert!(tally.met(kind, label) > 20, "{kind} {label}: {}", tally.met(kind, label));
         }
+    }
+}
+
+#[test]
+fn a_listing_is_its_lines() {
+    let mut dice = Dice::new(17);
+    for _ in 0..2_000 {
+        let recording = inputs::recording(&mut dice);
+        assert_eq!(list_by_lines(&Model, &recording), Model.list(&recording));
     }
 }
 
