@@ -1,4 +1,4 @@
-/* Three ways to read and write a GVAR block, to time a library beside them.
+/* Two ways in C to read and write a GVAR block, to time a library beside them; src/idiomatic.rs is a third.
  *
  * Each has the same five functions. check: the check word of len bytes.
  * unpack, pack: words of 6, 8 or 10 bits, most significant bit first; pack
@@ -24,6 +24,5 @@
 
 BASELINE(plain)
 BASELINE(good)
-BASELINE(idiomatic)
 
 #endif

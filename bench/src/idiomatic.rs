@@ -1,5 +1,4 @@
-//! Idiomatic Rust: slices, iterators and chunks, with a table for the check
-//! word; at the end the same C functions as the two others have.
+//! Idiomatic Rust: slices, iterators and chunks, with a table for the check word; at the end the same functions as the two others have.
 
 const COPY: usize = 30;
 const HEADER: usize = 28;
@@ -56,7 +55,7 @@ fn row(header: &[u8]) -> Result<Row, usize> {
     let suits = if fixed {
         count * size == 64_320
     } else {
-        (front + each..=front + each * LARGEST_N).contains(&count) && (count - front) % each == 0
+        (front + each..=front + each * LARGEST_N).contains(&count) && (count - front).is_multiple_of(each)
     };
     if !suits {
         return Err(7);
@@ -67,12 +66,7 @@ fn row(header: &[u8]) -> Result<Row, usize> {
 
 fn tens(b: &[u8; 5]) -> [u16; 4] {
     let b = b.map(u16::from);
-    [
-        b[0] << 2 | b[1] >> 6,
-        (b[1] & 0x3F) << 4 | b[2] >> 4,
-        (b[2] & 0x0F) << 6 | b[3] >> 2,
-        (b[3] & 3) << 8 | b[4],
-    ]
+    [b[0] << 2 | b[1] >> 6, (b[1] & 0x3F) << 4 | b[2] >> 4, (b[2] & 0x0F) << 6 | b[3] >> 2, (b[3] & 3) << 8 | b[4]]
 }
 
 fn sixes(b: &[u8; 3]) -> [u16; 4] {
@@ -81,8 +75,7 @@ fn sixes(b: &[u8; 3]) -> [u16; 4] {
 }
 
 fn from_tens(w: &[u16; 4]) -> [u8; 5] {
-    [w[0] >> 2, w[0] << 6 | w[1] >> 4, w[1] << 4 | w[2] >> 6, w[2] << 2 | w[3] >> 8, w[3]]
-        .map(|byte| byte as u8)
+    [w[0] >> 2, w[0] << 6 | w[1] >> 4, w[1] << 4 | w[2] >> 6, w[2] << 2 | w[3] >> 8, w[3]].map(|byte| byte as u8)
 }
 
 fn from_sixes(w: &[u16; 4]) -> [u8; 3] {
@@ -132,7 +125,7 @@ pub fn pack(words: &[u16], size: usize, field: &mut [u8]) {
 }
 
 fn fill_is_zero(field: &[u8], bits: usize) -> bool {
-    let part = bits % 8 == 0 || field[bits / 8] & (0xFF >> (bits % 8)) == 0;
+    let part = bits.is_multiple_of(8) || field[bits / 8] & (0xFF >> (bits % 8)) == 0;
     part && field[bits.div_ceil(8)..].iter().all(|&byte| byte == 0)
 }
 
@@ -190,17 +183,15 @@ pub fn write(header: &[u8], words: &[u16], dest: &mut [u8]) -> Result<usize, usi
     Ok(length)
 }
 
-/// The five functions of baseline.h. Pointers as slices want them: none is
-/// null, each is good for its length, and what is written overlaps nothing.
-pub mod c {
+/// The five functions of baseline.h. Pointers as slices want them: none is null, each is good for its length, and what is written overlaps
+/// nothing.
+pub(crate) mod c {
     use std::slice::{from_raw_parts, from_raw_parts_mut};
 
-    #[no_mangle]
     pub unsafe extern "C" fn idiomatic_check(bytes: *const u8, len: usize) -> u16 {
         super::check(from_raw_parts(bytes, len))
     }
 
-    #[no_mangle]
     pub unsafe extern "C" fn idiomatic_unpack(
         field: *const u8,
         field_len: usize,
@@ -211,7 +202,6 @@ pub mod c {
         super::unpack(from_raw_parts(field, field_len), size, from_raw_parts_mut(words, count))
     }
 
-    #[no_mangle]
     pub unsafe extern "C" fn idiomatic_pack(
         words: *const u16,
         count: usize,
@@ -222,7 +212,6 @@ pub mod c {
         super::pack(from_raw_parts(words, count), size, from_raw_parts_mut(field, field_len))
     }
 
-    #[no_mangle]
     pub unsafe extern "C" fn idiomatic_read(
         block: *const u8,
         len: usize,
@@ -239,7 +228,6 @@ pub mod c {
         }
     }
 
-    #[no_mangle]
     pub unsafe extern "C" fn idiomatic_write(
         header: *const u8,
         header_len: usize,

@@ -1,104 +1,30 @@
 //! agree SEED COUNT: the three baselines against the model.
 
-#[allow(dead_code)]
-mod idiomatic;
-
+use bench::{Way, BASELINES};
 use independent::compare::{case_of, Case};
 use independent::inputs::{draft, Dice};
 use independent::library::{Library, Model};
 use independent::{check, rows, words};
 
-type Check = unsafe extern "C" fn(*const u8, usize) -> u16;
-type Unpack = unsafe extern "C" fn(*const u8, usize, usize, *mut u16, usize);
-type Pack = unsafe extern "C" fn(*const u16, usize, usize, *mut u8, usize);
-type Read = unsafe extern "C" fn(*const u8, usize, *mut u16, usize, *mut u8) -> usize;
-type Write = unsafe extern "C" fn(*const u8, usize, *const u16, usize, *mut u8, usize) -> usize;
-
-extern "C" {
-    fn plain_check(bytes: *const u8, len: usize) -> u16;
-    fn plain_unpack(field: *const u8, field_len: usize, size: usize, words: *mut u16, count: usize);
-    fn plain_pack(words: *const u16, count: usize, size: usize, field: *mut u8, field_len: usize);
-    fn plain_read(block: *const u8, len: usize, room: *mut u16, room_len: usize, header: *mut u8) -> usize;
-    fn plain_write(
-        h: *const u8,
-        hl: usize,
-        words: *const u16,
-        count: usize,
-        dest: *mut u8,
-        dl: usize,
-    ) -> usize;
-    fn good_check(bytes: *const u8, len: usize) -> u16;
-    fn good_unpack(field: *const u8, field_len: usize, size: usize, words: *mut u16, count: usize);
-    fn good_pack(words: *const u16, count: usize, size: usize, field: *mut u8, field_len: usize);
-    fn good_read(block: *const u8, len: usize, room: *mut u16, room_len: usize, header: *mut u8) -> usize;
-    fn good_write(
-        h: *const u8,
-        hl: usize,
-        words: *const u16,
-        count: usize,
-        dest: *mut u8,
-        dl: usize,
-    ) -> usize;
-}
-
-struct Baseline {
-    name: &'static str,
-    check: Check,
-    unpack: Unpack,
-    pack: Pack,
-    read: Read,
-    write: Write,
-}
-
-use idiomatic::c::{idiomatic_check, idiomatic_pack, idiomatic_read, idiomatic_unpack, idiomatic_write};
-
-const ALL: [Baseline; 3] = [
-    Baseline {
-        name: "plain",
-        check: plain_check,
-        unpack: plain_unpack,
-        pack: plain_pack,
-        read: plain_read,
-        write: plain_write,
-    },
-    Baseline {
-        name: "good",
-        check: good_check,
-        unpack: good_unpack,
-        pack: good_pack,
-        read: good_read,
-        write: good_write,
-    },
-    Baseline {
-        name: "idiomatic",
-        check: idiomatic_check,
-        unpack: idiomatic_unpack,
-        pack: idiomatic_pack,
-        read: idiomatic_read,
-        write: idiomatic_write,
-    },
-];
-
-fn check_word(baseline: &Baseline, bytes: &[u8]) {
+fn check_word(baseline: &Way, bytes: &[u8]) {
     let got = unsafe { (baseline.check)(bytes.as_ptr(), bytes.len()) };
     assert_eq!(got, check::check_word(bytes), "{} check {bytes:02X?}", baseline.name);
 }
 
-fn reading(baseline: &Baseline, block: &[u8], room: &[u16]) -> usize {
+fn reading(baseline: &Way, block: &[u8], room: &[u16]) -> usize {
     let mut expected = room.to_vec();
     let answer = Model.read(block, &mut expected);
     let header = if answer.number == 0 { answer.header } else { [0xC3; 28] };
     let mut after = room.to_vec();
     let mut got = [0xC3; 28];
-    let number = unsafe {
-        (baseline.read)(block.as_ptr(), block.len(), after.as_mut_ptr(), after.len(), got.as_mut_ptr())
-    };
+    let number =
+        unsafe { (baseline.read)(block.as_ptr(), block.len(), after.as_mut_ptr(), after.len(), got.as_mut_ptr()) };
     assert_eq!(number, answer.number as usize, "{} read {block:02X?}", baseline.name);
     assert!(after == expected && got == header, "{} read {block:02X?}", baseline.name);
     number
 }
 
-fn writing(baseline: &Baseline, header: &[u8], words: &[u16], dest: &[u8]) {
+fn writing(baseline: &Way, header: &[u8], words: &[u16], dest: &[u8]) {
     let mut expected = dest.to_vec();
     let (answer, _) = Model.write(header, words, &mut expected);
     let mut after = dest.to_vec();
@@ -109,7 +35,7 @@ fn writing(baseline: &Baseline, header: &[u8], words: &[u16], dest: &[u8]) {
 }
 
 /// Fields with and without fill, and counts that leave a rest of one to three.
-fn packing(baseline: &Baseline, dice: &mut Dice) {
+fn packing(baseline: &Way, dice: &mut Dice) {
     let size = dice.pick(&[6, 8, 10]);
     let count = dice.below(60);
     let data: Vec<u16> = (0..count).map(|_| dice.below(1 << size) as u16).collect();
@@ -135,7 +61,7 @@ fn main() {
         let mut dice = Dice::for_case(!seed, number);
         let sound = draft(&mut dice);
         let room = 92 + rows::field_bits(sound.block, sound.words.len()) / 8;
-        for baseline in &ALL {
+        for baseline in &BASELINES {
             match &case {
                 Case::CheckWord { bytes } => {
                     check_word(baseline, bytes);
@@ -158,13 +84,13 @@ fn main() {
             }
         }
         if !matches!(case, Case::CheckWord { .. } | Case::Read { .. } | Case::Write { .. }) {
-            runs[4] += ALL.len() as u64;
+            runs[4] += BASELINES.len() as u64;
         }
     }
     let [checks, reads, accepted, writes, packs] = runs;
     println!(
         "{} baselines agree with the model: {checks} check words, {reads} reads ({accepted} accepted), \
          {writes} writes, {packs} packings",
-        ALL.len()
+        BASELINES.len()
     );
 }
