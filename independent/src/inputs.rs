@@ -868,9 +868,10 @@ fn next_field_case(dice: &mut Dice) -> Case {
     let length = recording.len();
     // where a field begins, or anywhere
     let at = if dice.one_in(2) {
-        let mut begins = vec![0];
-        while let Some(front) = recording.get(begins[begins.len() - 1]..).and_then(|rest| rest.first_chunk::<3>()) {
-            begins.push(begins[begins.len() - 1] + 3 + u16::from_be_bytes([front[1], front[2]]) as usize);
+        let (mut begins, mut next) = (vec![0], 0);
+        while let Some([_, high, low, ..]) = recording.get(next..) {
+            next += 3 + 256 * *high as usize + *low as usize;
+            begins.push(next);
         }
         dice.pick(&begins)
     } else {

@@ -86,11 +86,14 @@ pub trait Library {
     fn list(&self, recording: &[u8]) -> String;
 }
 
+/// Five columns, each of twenty digits at most and the byte behind them.
+const LONGEST_LINE: usize = 5 * 21;
+
 /// The listing of a recording as a caller makes it, field by field and line by line.
 pub fn list_by_lines(library: &dyn Library, recording: &[u8]) -> String {
     let mut text = Vec::new();
     let mut room = vec![0; LARGEST_C];
-    let mut spelt = [0; 105];
+    let mut spelt = [0; LONGEST_LINE];
     let (_, bytes) = library.first_text(&mut spelt);
     text.extend(&spelt[..bytes]);
     let (mut fields, mut at) = (0, 0);

@@ -58,7 +58,7 @@ pub fn next_field(recording: &[u8], at: usize) -> Found<'_> {
 /// let tags: Vec<u8> = fields.by_ref().map(|field| field.tag).collect();
 /// assert_eq!((tags, fields.is_cut()), (vec![2, 3], true));
 /// ```
-#[derive(Clone, Copy, Debug)]
+#[derive(Clone, Debug)]
 #[must_use = "an iterator does nothing by itself"]
 pub struct Fields<'a> {
     recording: &'a [u8],
@@ -67,11 +67,22 @@ pub struct Fields<'a> {
 
 impl<'a> Fields<'a> {
     /// The fields of a recording, from its first byte on.
+    ///
+    /// ```
+    /// # use rahmisve::*;
+    /// assert_eq!(Fields::of(&[2, 0, 1, 77]).next(), Some(Field { tag: 2, body: &[77] }));
+    /// ```
     pub fn of(recording: &'a [u8]) -> Fields<'a> {
         Fields { recording, at: 0 }
     }
 
     /// Whether there is no further field but a part of one.
+    ///
+    /// ```
+    /// # use rahmisve::*;
+    /// assert!(Fields::of(&[2, 0, 1]).is_cut());
+    /// assert!(!Fields::of(&[]).is_cut());
+    /// ```
     #[must_use]
     pub fn is_cut(&self) -> bool {
         next_field(self.recording, self.at) == Found::Cut

@@ -88,18 +88,42 @@ impl Watch {
     }
 
     /// Whether a scan is open.
+    ///
+    /// ```
+    /// # use rahmisve::*;
+    /// assert!(!Watch::begin(1_000)?.is_open());
+    /// # Ok::<(), Refusal>(())
+    /// ```
     #[must_use]
     pub fn is_open(&self) -> bool {
         self.0[0] != 0
     }
 
     /// The next expected block, while a scan is open.
+    ///
+    /// ```
+    /// # use rahmisve::*;
+    /// let mut watch = Watch::begin(1_000)?;
+    /// assert_eq!(watch.expected(), None);
+    /// watch.offer(0, &write_tag(&Time { year: 2008, day: 60, ..Time::default() })?)?;
+    /// assert_eq!(watch.expected(), Some(1));
+    /// # Ok::<(), Refusal>(())
+    /// ```
     #[must_use]
     pub fn expected(&self) -> Option<u32> {
         self.is_open().then_some(self.0[1])
     }
 
     /// The last tag's time, while a scan is open.
+    ///
+    /// ```
+    /// # use rahmisve::*;
+    /// let time = Time { year: 2008, day: 60, ..Time::default() };
+    /// let mut watch = Watch::begin(1_000)?;
+    /// watch.offer(0, &write_tag(&time)?)?;
+    /// assert_eq!(watch.last(), Some(time));
+    /// # Ok::<(), Refusal>(())
+    /// ```
     #[must_use]
     pub fn last(&self) -> Option<Time> {
         let [_, _, last @ .., _] = self.0;
@@ -107,12 +131,24 @@ impl Watch {
     }
 
     /// The waiting limit in ms.
+    ///
+    /// ```
+    /// # use rahmisve::*;
+    /// assert_eq!(Watch::begin(1_000)?.limit(), 1_000);
+    /// # Ok::<(), Refusal>(())
+    /// ```
     #[must_use]
     pub fn limit(&self) -> u32 {
         self.0[9]
     }
 
     /// The ten numbers, to be kept somewhere.
+    ///
+    /// ```
+    /// # use rahmisve::*;
+    /// assert_eq!(Watch::begin(1_000)?.numbers(), [0, 0, 0, 0, 0, 0, 0, 0, 0, 1_000]);
+    /// # Ok::<(), Refusal>(())
+    /// ```
     #[must_use]
     pub fn numbers(&self) -> [u32; WATCH_NUMBERS] {
         self.0
