@@ -17,6 +17,20 @@ relay() {
         esac
     done <"$1"
 }
+# block LANGUAGE N [HEADING]: the nth block of a language on the page that a test names, behind a heading where one is given
+page=
+block() {
+    awk -v fence="\`\`\`$1" -v n="$2" -v from="${3:+## $3}" '
+        from == "" || $0 == from { found = 1 }
+        $0 == "```" { on = 0 }
+        on { print }
+        found && $0 == fence { on = (++seen == n) }' "$page"
+}
+# recordings DIR SEED COUNT: has the independent program make recordings there, each as NAME.rec beside its listing, NAME.txt
+recordings() {
+    mkdir -p "$1" && cargo build --quiet --release --offline -p independent --bin recordings &&
+        "${CARGO_TARGET_DIR:-target/cargo}/release/recordings" "$@"
+}
 done_testing() { echo "1..$tried" && exit $bad; }
 # a folder that is gone afterwards
 dir=$(mktemp -d)
