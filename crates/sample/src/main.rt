@@ -2,6 +2,7 @@
 // version 2, blocks 11 of every version and size, damaged fields, and three scans that a watch with a limit of 5,000 ms closes early.
 ghost use Prim.Native.Nat.{_+_, _<_};
 use header::EXTRA_WORDS;
+use libc::STDERR_FILENO;
 use libc::STDOUT_FILENO;
 use tag::Tag;
 
@@ -60,13 +61,26 @@ fn header_of(block: Block) -> [u8; 28]
     header
 }
 
-// A field of the recording: the first `end` bytes of the room, where it has them.
-fn put_field(tag: u8, room: &[u8], end: usize) {
-    if end <= room.len() {
-        let front = recording::front_of(tag, (end % 65536) as u16);
-        io::write_all(STDOUT_FILENO, &front);
-        io::write_all(STDOUT_FILENO, &room[..end]);
+// Writes the bytes; false where that failed, and standard error says why. So it is with all that put something: the first that fails is the
+// last.
+fn write(bytes: &[u8]) -> bool {
+    if io::write_all(STDOUT_FILENO, bytes) {
+        return true;
     }
+    os::fail(b"standard output");
+    false
+}
+
+// A field of the recording: the first `end` bytes of the room, where it has them.
+fn put_field(tag: u8, room: &[u8], end: usize) -> bool {
+    if room.len() < end {
+        return true;
+    }
+    let front = recording::front_of(tag, (end % 65536) as u16);
+    if write(&front) {
+        return write(&room[..end]);
+    }
+    false
 }
 
 // The words of a line, a pattern that every size holds.
@@ -99,22 +113,23 @@ fn turn_over(room: &mut [u8], at: usize, bit: u8) {
 }
 
 // A field of a block with a bit turned over at a byte, and its last `less` bytes left out.
-fn put_damaged(block: Block, tag: u8, at: usize, bit: u8, less: usize)
+fn put_damaged(block: Block, tag: u8, at: usize, bit: u8, less: usize) -> bool
     requires { ⌜ block .words < 65534 ⌝ }
 {
     let mut pattern = [0u16; MOST_WORDS];
     let mut room = [0u8; BLOCK_BYTES];
     let end = make(block, &mut pattern, &mut room);
     turn_over(&mut room, at, bit);
-    if less <= end {
-        put_field(tag, &room, end - less);
+    if end < less {
+        return true;
     }
+    put_field(tag, &room, end - less)
 }
 
-fn put_block(block: Block)
+fn put_block(block: Block) -> bool
     requires { ⌜ block .words < 65534 ⌝ }
 {
-    put_damaged(block, recording::BLOCK, 0, 0, 0);
+    put_damaged(block, recording::BLOCK, 0, 0, 0)
 }
 
 // A block 1 to 10 of version 2 and of so many infrared pixels.
@@ -136,15 +151,15 @@ fn scanned(number: u8, pixels: u16, time: u32) -> Block
     }
 }
 
-fn put_scanned(number: u8, pixels: u16, time: u32)
+fn put_scanned(number: u8, pixels: u16, time: u32) -> bool
     requires { ⌜ pixels < 5237 ⌝ }
 {
     let block = scanned(number, pixels, time);
-    put_block(block);
+    put_block(block)
 }
 
 // A block of the fixed length: 0 or 11.
-fn put_fixed(id: u8, size: u8, words: u16, version: u8, time: u32)
+fn put_fixed(id: u8, size: u8, words: u16, version: u8, time: u32) -> bool
     requires { ⌜ words < 65534 ⌝ }
 {
     let block = Block {
@@ -154,70 +169,91 @@ fn put_fixed(id: u8, size: u8, words: u16, version: u8, time: u32)
         version: version,
         time: time,
     };
-    put_block(block);
+    put_block(block)
 }
 
-fn put_block_0(time: u32) {
-    put_fixed(240, 8, 8040, 2, time);
+fn put_block_0(time: u32) -> bool {
+    put_fixed(240, 8, 8040, 2, time)
 }
 
 // Blocks 0 to 10, a tenth of a second apart, over midnight: completed.
-fn put_scan() {
-    put_block_0(86399500);
+fn put_scan() -> bool {
+    if !put_block_0(86399500) {
+        return false;
+    }
     let mut number: u8 = 1;
     while number <= 10 {
-        put_scanned(number, PIXELS, 86399500 + 100 * number as u32);
+        if !put_scanned(number, PIXELS, 86399500 + 100 * number as u32) {
+            return false;
+        }
         number += 1;
     }
+    true
 }
 
-// A header copy hit, which the other two make good; the field hit; a byte missing; another tag; fewer bytes than a header has.
-fn put_hits(time: u32) {
+// Blocks 11 of every version and size.
+fn put_blocks_11(time: u32) -> bool
+    requires { ⌜ time + 300 < 4294967296 ⌝ }
+{
+    put_fixed(11, 8, 8040, 0, time)
+        && put_fixed(11, 6, 10720, 1, time + 100)
+        && put_fixed(11, 10, 6432, 2, time + 200)
+        && put_fixed(11, 8, 8040, 3, time + 300)
+}
+
+// A header copy hit, which the other two make good; the data hit; a byte missing; another tag; fewer bytes than a header has.
+fn put_hits(time: u32) -> bool {
     let block = scanned(3, PIXELS, time);
-    put_damaged(block, recording::BLOCK, 5, 16, 0);
-    put_damaged(block, recording::BLOCK, 200, 1, 0);
-    put_damaged(block, recording::BLOCK, 0, 0, 1);
-    put_damaged(block, 2, 0, 0, 0);
-    put_damaged(block, recording::BLOCK, 0, 0, 2700);
+    put_damaged(block, recording::BLOCK, 5, 16, 0)
+        && put_damaged(block, recording::BLOCK, 200, 1, 0)
+        && put_damaged(block, recording::BLOCK, 0, 0, 1)
+        && put_damaged(block, 2, 0, 0, 0)
+        && put_damaged(block, recording::BLOCK, 0, 0, 2700)
 }
 
 // Block 1 comes 5,000 ms after block 0, and block 2 a millisecond more after that: late.
-fn put_late(time: u32)
+fn put_late(time: u32) -> bool
     requires { ⌜ time + 10001 < 4294967296 ⌝ }
 {
-    put_block_0(time);
-    put_scanned(1, FEW_PIXELS, time + 5000);
-    put_scanned(2, FEW_PIXELS, time + 10001);
+    put_block_0(time)
+        && put_scanned(1, FEW_PIXELS, time + 5000)
+        && put_scanned(2, FEW_PIXELS, time + 10001)
 }
 
 // Block 2 has a time one millisecond before that of block 1: clock back.
-fn put_clock_back(time: u32)
+fn put_clock_back(time: u32) -> bool
     requires { ⌜ time + 100 < 4294967296 ⌝ }
 {
-    put_block_0(time);
-    put_scanned(1, FEW_PIXELS, time + 100);
-    put_scanned(2, FEW_PIXELS, time + 99);
+    put_block_0(time)
+        && put_scanned(1, FEW_PIXELS, time + 100)
+        && put_scanned(2, FEW_PIXELS, time + 99)
 }
 
 // Block 2 is hit and refused, so that block 3 is not the one expected: broken.
-fn put_broken(time: u32)
+fn put_broken(time: u32) -> bool
     requires { ⌜ time + 300 < 4294967296 ⌝ }
 {
-    put_block_0(time);
-    put_scanned(1, FEW_PIXELS, time + 100);
     let second = scanned(2, FEW_PIXELS, time + 200);
-    put_damaged(second, recording::BLOCK, 200, 1, 0);
-    put_scanned(3, FEW_PIXELS, time + 300);
+    put_block_0(time)
+        && put_scanned(1, FEW_PIXELS, time + 100)
+        && put_damaged(second, recording::BLOCK, 200, 1, 0)
+        && put_scanned(3, FEW_PIXELS, time + 300)
 }
 
+fn put_all() -> bool {
+    put_scan()
+        && put_blocks_11(86400600)
+        && put_hits(86401000)
+        && put_late(86401500)
+        && put_clock_back(86412000)
+        && put_broken(86412500)
+}
+
+// Any word, an option or a name, is answered with how it is called.
 fn main() {
-    put_scan();
-    put_fixed(11, 8, 8040, 0, 86400600);
-    put_fixed(11, 6, 10720, 1, 86400700);
-    put_fixed(11, 10, 6432, 2, 86400800);
-    put_fixed(11, 8, 8040, 3, 86400900);
-    put_hits(86401000);
-    put_late(86401500);
-    put_clock_back(86412000);
-    put_broken(86412500);
+    if 1 < os::arg_count() {
+        io::write_all(STDERR_FILENO, b"usage: sample >RECORDING\n");
+        return;
+    }
+    put_all();
 }

@@ -6,41 +6,45 @@ use borrow.Author.Needs.{needs}
 use Rattle.sample.proofs.put_field.Statement.{statement}
 use Rattle.sample.proofs.put_field.Tie as tie
 
+returns : tie.Need-returns
+returns c = search needs
+
 cast-front-of : tie.Need-cast-front-of
 cast-front-of c = search needs
 
 front-of-requires : tie.Need-front-of-requires
 front-of-requires c κs = search needs
 
-slice-aggregate-write-all : tie.Need-slice-aggregate-write-all
-slice-aggregate-write-all c = search needs
+slice-aggregate-write : tie.Need-slice-aggregate-write
+slice-aggregate-write c = search needs
 
-write-all-requires : tie.Need-write-all-requires
-write-all-requires c κs = search needs
+write-requires : tie.Need-write-requires
+write-requires c κs = search needs
 
-slice-aggregate-write-all-2 : tie.Need-slice-aggregate-write-all-2
-slice-aggregate-write-all-2 c =
-    let a = c .before .before .before .before .before .before .args in
-    sym (length-take-le (a .end) (a .room .now) (c .before .before .before .before .if1 .taken))
+slice-aggregate-write-2 : tie.Need-slice-aggregate-write-2
+slice-aggregate-write-2 c =
+    let a = c .before .before .before .before .before .before .before .args in
+    sym (length-take-le (a .end) (a .room .now) (c .before .before .before .before .before .if1 .left))
 
-write-all-requires-2 : tie.Need-write-all-requires-2
-write-all-requires-2 c κs = search needs
-
-returns : tie.Need-returns
-returns c = search needs
+write-requires-2 : tie.Need-write-requires-2
+write-requires-2 c κs = search needs
 
 returns-2 : tie.Need-returns-2
 returns-2 c = search needs
+
+returns-3 : tie.Need-returns-3
+returns-3 c = search needs
 
 pub put-field-spec : {M : Type 1} → statement M
 put-field-spec =
     tie.close
     (tie.spec
+    returns
     cast-front-of
     front-of-requires
-    slice-aggregate-write-all
-    write-all-requires
-    slice-aggregate-write-all-2
-    write-all-requires-2
-    returns
-    returns-2)
+    slice-aggregate-write
+    write-requires
+    slice-aggregate-write-2
+    write-requires-2
+    returns-2
+    returns-3)

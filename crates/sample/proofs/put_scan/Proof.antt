@@ -14,6 +14,9 @@ abbrev μ-loop : tie.MeasureT-loop
 put-block-0-requires : tie.Need-put-block-0-requires Inv-loop μ-loop
 put-block-0-requires c κs = search needs
 
+returns : tie.Need-returns Inv-loop μ-loop
+returns c = search needs
+
 loop-holds : tie.Need-loop-holds Inv-loop μ-loop
 loop-holds c = search needs
 
@@ -29,6 +32,9 @@ add-put-scanned c = search needs
 put-scanned-requires : tie.Need-put-scanned-requires Inv-loop μ-loop
 put-scanned-requires c κs = search needs
 
+returns-2 : tie.Need-returns-2 Inv-loop μ-loop
+returns-2 c = search needs
+
 add-number : tie.Need-add-number Inv-loop μ-loop
 add-number c = search needs
 
@@ -38,8 +44,8 @@ loop-less c = search needs
 loop-again : tie.Need-loop-again Inv-loop μ-loop
 loop-again c = search needs
 
-returns : tie.Need-returns Inv-loop μ-loop
-returns c = search needs
+returns-3 : tie.Need-returns-3 Inv-loop μ-loop
+returns-3 c = search needs
 
 pub put-scan-spec : {M : Type 1} → statement M
 put-scan-spec =
@@ -48,12 +54,14 @@ put-scan-spec =
     Inv-loop
     μ-loop
     put-block-0-requires
+    returns
     loop-holds
     cast-put-scanned
     mul-put-scanned
     add-put-scanned
     put-scanned-requires
+    returns-2
     add-number
     loop-less
     loop-again
-    returns)
+    returns-3)
