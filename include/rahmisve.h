@@ -5,8 +5,8 @@
  * needs of a machine.
  *
  * VERSION. RAHMISVE_VERSION is the version of this file, rahmisve_version() that of the archive. Every change of a signature, a size or a
- * place raises it. Where `rahmisve_version() != RAHMISVE_VERSION` the program was built with the header of another archive, and nothing
- * else below may be called.
+ * place raises it, and every new or changed number of an answer, a verdict or a find. Where `rahmisve_version() != RAHMISVE_VERSION` the
+ * program was built with the header of another archive, and nothing else below may be called.
  *
  * ANSWERS. A function returns its answer: 0, which is accepted, or the number of a refusal, each named once in the list below. Of several
  * grounds the first one decides, in the order that stands with the function. Three functions refuse nothing and return something else:
@@ -178,8 +178,10 @@ uint8_t rahmisve_elapsed(const uint8_t *from, size_t from_length, const uint8_t 
 #define RAHMISVE_WATCH_NUMBERS 10        /* a watch: ten numbers in a row, which the host keeps */
 #define RAHMISVE_LONGEST_WAIT_MS 3600000 /* the largest waiting limit */
 
-/* Places in a watch. The host may read, copy and store them. Any number may stand in any place: one out of bounds is refused by the offer
- * that would use it. Beginning, and every closing that opens no new scan, leave zeros in the expected block and the last tag. */
+/* Places in a watch. The host may read, copy and store them; a stored watch is for one version, so store RAHMISVE_VERSION beside it. Any
+ * number may stand in any place: one out of bounds is refused by the offer that would use it. Beginning, and every closing that opens no
+ * new scan, leave zeros in the expected block and the last tag. A watch has no clock: only an offer closes a scan, and in silence it stays
+ * open. */
 #define RAHMISVE_WATCH_OPEN 0     /* 1 where a scan is open, 0 where the watch is idle; any number but 0 counts as open */
 #define RAHMISVE_WATCH_EXPECTED 1 /* the next expected block, 1 to 10; not read while idle */
 #define RAHMISVE_WATCH_LAST 2     /* the last tag, a time of seven numbers (places 2 to 8); not read while idle */
