@@ -2,7 +2,7 @@
  *
  * The archive librahmisve.a holds proved code: for every input whatever, a function below answers what its definition says, reads and
  * writes nothing outside the buffers lent to it, and returns. docs/LINKING.md says how to make the archive, how to link it and what it
- * needs of a machine.
+ * needs of a machine; docs/SCOPE.md has the format, which sizes and counts each block has (Field sizes) and the ground of every number.
  *
  * VERSION. RAHMISVE_VERSION is the version of this file, rahmisve_version() that of the archive. Every change of a signature, a size or a
  * place raises it, and every new or changed number of an answer, a verdict or a find. Where `rahmisve_version() != RAHMISVE_VERSION` the
@@ -14,8 +14,9 @@
  * but verdict 0 of a watch is a refused offer, and found 0 is the end of a recording.
  *
  * PLACES AND ROOMS. What else belongs to an answer goes to the places that the caller lends for it: `header`, `word_count`, `start` and
- * the like. A place is written on every call: on a refusal with zeros. A room, which is a `room` or the `field` that rahmisve_put_words
- * fills, is written only by an accepted call; a refusal leaves it, and a watch, as it was, to the bit.
+ * the like. A place is written on every call, on a refusal with zeros; only `seq` of rahmisve_line has its number then too. A room, which
+ * is a `room` or the `field` that rahmisve_put_words fills, is written only by an accepted call; a refusal leaves it, and a watch, as it
+ * was, to the bit.
  *
  * MEMORY. Everything lent belongs to the caller, before and after. The library keeps no pointer, allocates nothing, keeps nothing
  * between calls, has no variables of its own, does no input or output and does not touch errno. So calls may be made from several
@@ -63,12 +64,12 @@ uint32_t rahmisve_version(void);
  * and texts[answer] says what it means. A comment says where a number has more grounds than its text names. */
 #define RAHMISVE_ANSWERS(ANSWER) \
     ANSWER(ACCEPTED, 0, "accepted") \
-    ANSWER(NO_HEADER, 1, "a block of fewer than 90 bytes, or a header not of 28") \
+    ANSWER(NO_HEADER, 1, "a block of fewer than 90 bytes, or a header not of 28 bytes") \
     ANSWER(NO_COPY_PASSES, 2, "none of the three header copies passes its check") \
     ANSWER(COPIES_DIFFER, 3, "two header copies pass and differ") \
     ANSWER(UNKNOWN_BLOCK, 4, "an unknown block id, or a block number above 11") \
     ANSWER(UNKNOWN_VERSION, 5, "a version above 3") \
-    ANSWER(WRONG_SIZE, 6, "no words of this size") /* in this block; a size outside 1 to 16, where no block is asked about */ \
+    ANSWER(WRONG_SIZE, 6, "a word size that the block cannot have, or outside 1 to 16") \
     ANSWER(WRONG_COUNT, 7, "the block cannot have this count of words") \
     ANSWER(WRONG_LENGTH, 8, "not the required number of bytes or words") /* too few bits, where words are taken out of a field */ \
     ANSWER(SMALL_ROOM, 9, "too little room, or too few words") /* fewer than C words, where a record is asked for */ \
@@ -99,7 +100,7 @@ enum { RAHMISVE_ANSWERS(RAHMISVE_CONSTANT) RAHMISVE_ANSWER_NUMBERS };
 #define RAHMISVE_HEADER_SIZE 1    /* bits of a word */
 #define RAHMISVE_HEADER_COUNT 2   /* two bytes, the high one first: C + RAHMISVE_EXTRA_WORDS */
 #define RAHMISVE_HEADER_VERSION 7 /* 0 to 3 */
-#define RAHMISVE_HEADER_VALID 8   /* 1 where the data are valid; not looked at either */
+#define RAHMISVE_HEADER_VALID 8   /* 1 where data is marked valid; not looked at either */
 #define RAHMISVE_HEADER_TIME 16   /* the tag of the SPS time, RAHMISVE_TAG_BYTES long; not looked at either */
 #define RAHMISVE_BLOCK_0_ID 240   /* the id of block 0; those of blocks 1 to 11 are their numbers */
 #define RAHMISVE_EXTRA_WORDS 2    /* what a header's count has beyond C, for the check word */
@@ -118,7 +119,8 @@ uint8_t rahmisve_plan(const uint8_t *header, size_t header_length, uint8_t *bloc
                       size_t *word_count, size_t *field_bytes);
 
 /* Writes the block of a header and its C words to the front of the room, which may be longer: three equal header copies with their
- * checks, the field with zeros behind the last word, its check word. `bytes` is the length of the block.
+ * checks, the field with zeros behind the last word, its check word. `bytes` is the length of the block. Which sizes and counts are a
+ * block's: docs/SCOPE.md, Field sizes.
  * Refusals: 1, 4, 5, 6, 7, 8, 9, 14. */
 uint8_t rahmisve_write(const uint8_t *header, size_t header_length, const uint16_t *words, size_t words_length, uint8_t *room,
                        size_t room_length, size_t *bytes);
@@ -142,7 +144,8 @@ uint8_t rahmisve_place(uint32_t block, uint32_t version, uint32_t record, uint8_
 #define RAHMISVE_IMAGER_MARKS 4    /* a mark for each section of the Imager's block */
 #define RAHMISVE_SOUNDER_MARKS 2   /* the same for the Sounder's */
 
-/* Judges the parity sections of block 1 of the Imager spacelook set: holds[k] is the mark of section k + 1: whether its parity holds.
+/* Judges block 1 of the Imager spacelook set, section by section: holds[k] is 1 where the parity of section k + 1 holds. It comes as a
+ * block 11 with words of eight bits; which block 11 is one, the host finds out, since the SAD ID is not read here.
  * Refusals: 8 where there are not 8,040 words, 14 for a word above 255. */
 uint8_t rahmisve_parity_imager(const uint16_t *words, size_t words_length, uint8_t holds[RAHMISVE_IMAGER_MARKS]);
 
@@ -202,9 +205,10 @@ uint8_t rahmisve_watch_begin(uint32_t limit, uint32_t watch[RAHMISVE_WATCH_NUMBE
 
 /* Offers a block and the bytes of its tag. `verdict` says what that did. A closing offer of block 0 also opens a new scan, so look at
  * watch[RAHMISVE_WATCH_OPEN]; after any other closing the watch is idle.
- * Where the offer is refused, and where it is a stray, the watch is only read: it may stand in write-protected memory then, and other
- * threads may read it meanwhile.
- * Refusals: 16, 13, 12 for the watch, then 4 for the block, 12 for its tag. */
+ * Where the offer is refused, and where it is a stray, the watch is only read, and may stand in write-protected memory. Any other offer
+ * writes it number by number: threads that share a watch take a lock, and where an interrupt uses it too, interrupts are off meanwhile.
+ * Refusals: 16, 13, 12 for the watch, then 4 for the block, 12 for its tag. A watch that is refused stays so, whatever is offered, block 0
+ * too: begin it anew. 12 is for the watch where rahmisve_read_tag accepts the offered tag. */
 uint8_t rahmisve_watch_offer(uint32_t watch[RAHMISVE_WATCH_NUMBERS], uint32_t block, const uint8_t *tag, size_t tag_length,
                              uint8_t *verdict);
 
@@ -213,7 +217,7 @@ uint8_t rahmisve_watch_offer(uint32_t watch[RAHMISVE_WATCH_NUMBERS], uint32_t bl
 /* A recording is fields, one after the other: a tag of one byte, the length of the body in two, the high one first, and the body. */
 #define RAHMISVE_FRONT_BYTES 3     /* tag and length, in front of a body */
 #define RAHMISVE_FIELD_BYTES 65538 /* the longest field with its front: a buffer of so many bytes is enough to read any recording */
-#define RAHMISVE_LINE_BYTES 105    /* no line of the listing is longer: a room of so many bytes holds any */
+#define RAHMISVE_LINE_BYTES 105    /* five columns of 21 bytes, a bound that no line of the listing reaches: a room of so many holds any */
 #define RAHMISVE_BLOCK_FIELD 1     /* the tag of a field that holds a block */
 
 /* What stands in a recording. */
@@ -223,7 +227,8 @@ uint8_t rahmisve_watch_offer(uint32_t watch[RAHMISVE_WATCH_NUMBERS], uint32_t bl
 
 /* What stands in a recording from byte `at` on, which may lie beyond its end. Of a whole field `tag` is its tag, `start` where its body
  * starts and `length` how long that is; the next field is at start + length. Where there is none they are zeros.
- * Where only a part of a recording is in memory, END and CUT mean that more of it is needed: examples/watch.c goes on with it.
+ * Where only a part of a recording is in memory, END and CUT mean that more of it is needed: examples/watch.c goes on with it. A buffer
+ * of fewer than RAHMISVE_FIELD_BYTES may be too small for a field: skip that by its front, whose bytes 1 and 2 are the length of the body.
  * It refuses nothing, and returns what it found. */
 uint8_t rahmisve_next_field(const uint8_t *recording, size_t recording_length, size_t at, uint8_t *tag, size_t *start, size_t *length);
 
