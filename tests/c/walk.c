@@ -1,4 +1,4 @@
-/* walk FILE: takes the one block of a file apart, step by step, for docs/WALK.md. A line `== N` begins step N, and the lines behind it stand
+/* walk FILE: takes the one block of a file apart, step by step, for docs/WALK.md. A line `== N` begins step N, and the lines behind it are
  * on the page. What is printed comes from the file and from the library, of the block as it is and as it is changed here and there. */
 #include <stdio.h>
 #include <string.h>
@@ -121,6 +121,34 @@ static void step_copies(void)
     tell_block();
 }
 
+/* The first byte into the register, bit after bit, with the generator that the library is seen to have: turning a message's last bit joins
+ * it once more. */
+static void print_first_byte(unsigned reg)
+{
+    const uint8_t zero = 0, one = 1;
+    unsigned of_zero = rahmisve_check_word(&zero, 1), of_one = rahmisve_check_word(&one, 1), generator = of_zero ^ of_one;
+    printf("the check word of 00: %04X\nthe check word of 01: %04X\n", of_zero, of_one);
+    printf("they differ by %04X, which is x^16", generator);
+    for (int power = 15; power > 0; power--)
+        if (generator >> power & 1)
+            printf(" + x^%d", power);
+    printf("%s without its first term\nbyte 0 is %02X: ", generator & 1 ? " + 1" : "", sent[0]);
+    print_bits(sent[0], 8);
+    putchar('\n');
+    for (int bit = 7; bit >= 0; bit--) {
+        unsigned leaves = reg >> 15, comes = sent[0] >> bit & 1u;
+        printf("%04X: %u leaves, the message has %u: ", reg, leaves, comes);
+        reg = reg << 1 & 0xFFFF;
+        printf("%04X", reg);
+        if (leaves != comes) {
+            reg ^= generator;
+            printf(", joined with %04X: %04X", generator, reg);
+        }
+        putchar('\n');
+    }
+    printf("the register behind byte 0: %04X by hand, %04X by the library\n", reg, 0xFFFF ^ (unsigned)rahmisve_check_word(sent, 1));
+}
+
 static void step_check(void)
 {
     unsigned start = 0xFFFF ^ rahmisve_check_word(sent, 0), check = rahmisve_check_word(sent, RAHMISVE_HEADER_BYTES);
@@ -132,6 +160,7 @@ static void step_check(void)
     block[5] ^= 0x10;
     printf("the check word where byte 5 is %02X: %04X\n", block[5], (unsigned)rahmisve_check_word(block, RAHMISVE_HEADER_BYTES));
     printf("the check word of the ASCII digits 123456789: %04X\n", (unsigned)rahmisve_check_word((const uint8_t *)"123456789", 9));
+    print_first_byte(start);
 }
 
 static void step_header(void)
