@@ -301,9 +301,9 @@ static void step_time(void)
     midnight[RAHMISVE_TIME_DAY] = time[RAHMISVE_TIME_DAY];
     rahmisve_write_tag(midnight, begin);
     rahmisve_elapsed(begin, sizeof begin, tag, sizeof tag, &ms);
-    printf("from midnight: %ld ms\n", (long)ms);
+    printf("from midnight of the same day: %ld ms\n", (long)ms);
     rahmisve_elapsed(tag, sizeof tag, begin, sizeof begin, &ms);
-    printf("to midnight: %ld ms\n", (long)ms);
+    printf("back to that midnight: %ld ms\n", (long)ms);
     tag[2] |= 0x80;
     rahmisve_read_tag(tag, sizeof tag, time);
     rahmisve_elapsed(header + RAHMISVE_HEADER_TIME, sizeof tag, tag, sizeof tag, &ms);
