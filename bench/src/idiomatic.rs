@@ -1,4 +1,5 @@
-//! Idiomatic Rust: slices, iterators and chunks, with a table for the check word; at the end the same functions as the two others have.
+//! Idiomatic Rust: slices, iterators and chunks, with a table for the check word; at the end the same functions as the
+//! two others have.
 
 const COPY: usize = 30;
 const HEADER: usize = 28;
@@ -183,8 +184,8 @@ pub fn write(header: &[u8], words: &[u16], dest: &mut [u8]) -> Result<usize, usi
     Ok(length)
 }
 
-/// The five functions of baseline.h. Pointers as slices want them: none is null, each is good for its length, and what is written overlaps
-/// nothing.
+/// The five functions of baseline.h. Pointers as slices want them: none is null, each is good for its length, and what
+/// is written overlaps nothing.
 pub(crate) mod c {
     use std::slice::{from_raw_parts, from_raw_parts_mut};
 

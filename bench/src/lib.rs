@@ -1,12 +1,13 @@
-//! The ways that are timed beside each other: plain C, good C and idiomatic Rust, each with the five functions of baseline.h, and the
-//! library in the same form.
+//! The ways that are timed beside each other: plain C, good C and idiomatic Rust, each with the five functions of
+//! baseline.h, and the library in the same form.
 
 pub mod idiomatic;
 
 use idiomatic::c::*;
 use rahmisve_sys::*;
 
-/// The five functions of one way. Each pointer leads to as many elements as is said, and what is written overlaps nothing.
+/// The five functions of one way. Each pointer leads to as many elements as is said, and what is written overlaps
+/// nothing.
 pub struct Way {
     pub name: &'static str,
     pub check: unsafe extern "C" fn(bytes: *const u8, len: usize) -> u16,

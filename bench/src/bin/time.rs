@@ -1,5 +1,6 @@
-//! time: the library's check word, unpacking, packing, reader and writer beside plain C, good C and idiomatic Rust, in one run on one
-//! thread. All answers are compared first. Prints microseconds a call, the best of many rounds, and how the library is against each.
+//! time: the library's check word, unpacking, packing, reader and writer beside plain C, good C and idiomatic Rust, in
+//! one run on one thread. All answers are compared first. Prints microseconds a call, the best of many rounds, and how
+//! the library is against each.
 
 use std::hint::black_box;
 use std::time::{Duration, Instant};
@@ -98,18 +99,20 @@ fn agree(trial: &mut Trial, ways: &[Way; 4]) {
     }
 }
 
-/// The best time of a call, the ways taking turns so that all meet the same machine.
-fn timed(what: &str, trial: &mut Trial, ways: &[Way; 4]) -> [f64; 4] {
+/// The best time of each call, all of them taking turns so that they meet the same machine.
+fn timed(trial: &mut Trial, ways: &[Way; 4]) -> [[f64; 4]; WHAT.len()] {
     const CALLS: u32 = 20;
-    let mut best = [f64::INFINITY; 4];
-    let end = Instant::now() + Duration::from_millis(1_200);
+    let mut best = [[f64::INFINITY; 4]; WHAT.len()];
+    let end = Instant::now() + Duration::from_secs(8);
     while Instant::now() < end {
-        for (best, way) in best.iter_mut().zip(ways) {
-            let begun = Instant::now();
-            for _ in 0..CALLS {
-                black_box(black_box(&mut *trial).once(what, way));
+        for (best, what) in best.iter_mut().zip(WHAT) {
+            for (best, way) in best.iter_mut().zip(ways) {
+                let begun = Instant::now();
+                for _ in 0..CALLS {
+                    black_box(black_box(&mut *trial).once(what, way));
+                }
+                *best = best.min(begun.elapsed().as_secs_f64() * 1e6 / f64::from(CALLS));
             }
-            *best = best.min(begun.elapsed().as_secs_f64() * 1e6 / f64::from(CALLS));
         }
     }
     best
@@ -138,8 +141,7 @@ fn main() {
     for (id, size, c) in [(1, 10, 2_144), (240, 8, 8_040), (1, 10, 4 * (16 + idiomatic::LARGEST_N))] {
         let mut trial = Trial::new(id, size, c);
         agree(&mut trial, &ways);
-        for what in WHAT {
-            let [own, others @ ..] = timed(what, &mut trial, &ways);
+        for (what, [own, others @ ..]) in WHAT.into_iter().zip(timed(&mut trial, &ways)) {
             print!("{what:<12}{:>8}{own:>10.2}", trial.field().len());
             for other in others {
                 print!("{:>24}", format!("{other:.2}, {}", against(own, other)));
