@@ -2,6 +2,8 @@
 
 use rahmisve_sys::{rahmisve_plan, rahmisve_read, rahmisve_write};
 
+#[cfg(doc)]
+use crate::Refusal::*;
 use crate::{answer, Refusal, COPY_MARKS, HEADER_BYTES};
 
 /// The first 28 bytes of a header copy, which the reader gives and the writer and record access take.
@@ -22,10 +24,12 @@ pub struct Read {
 ///
 /// # Errors
 ///
-/// The first that holds of 1, 2, 3, 4, 5, 6, 7, 8, 17, 9, 10 and 11. The room is as it was.
+/// The first that holds of [`NoHeader`] (1), [`NoCopyPasses`] (2), [`CopiesDiffer`] (3), [`UnknownBlock`] (4),
+/// [`UnknownVersion`] (5), [`WrongSize`] (6), [`WrongCount`] (7), [`WrongLength`] (8), [`OffBoundary`] (17),
+/// [`SmallRoom`] (9), [`CheckDisagrees`] (10) and [`FillNotZero`] (11). The room is as it was.
 ///
 /// ```
-/// # use rahmisve::*;
+/// use rahmisve::*;
 /// # let mut header = [0; HEADER_BYTES];
 /// # (header[HEADER_ID], header[HEADER_SIZE], header[HEADER_COUNT + 1]) = (1, 10, 68 + EXTRA_WORDS as u8);
 /// # let mut bytes = [0; MOST_BYTES];
@@ -78,10 +82,11 @@ pub struct Plan {
 ///
 /// # Errors
 ///
-/// The first that holds of 1, 4, 5, 6 and 7.
+/// The first that holds of [`NoHeader`] (1), [`UnknownBlock`] (4), [`UnknownVersion`] (5), [`WrongSize`] (6) and
+/// [`WrongCount`] (7).
 ///
 /// ```
-/// # use rahmisve::*;
+/// use rahmisve::*;
 /// let mut header = [0; HEADER_BYTES];
 /// header[HEADER_ID] = BLOCK_0_ID;
 /// header[HEADER_SIZE] = 8;
@@ -112,10 +117,11 @@ pub fn plan(header: &[u8]) -> Result<Plan, Refusal> {
 ///
 /// # Errors
 ///
-/// The first that holds of 1, 4, 5, 6, 7, 8, 9 and 14. The room is as it was.
+/// The first that holds of [`NoHeader`] (1), [`UnknownBlock`] (4), [`UnknownVersion`] (5), [`WrongSize`] (6),
+/// [`WrongCount`] (7), [`WrongLength`] (8), [`SmallRoom`] (9) and [`LargeWord`] (14). The room is as it was.
 ///
 /// ```
-/// # use rahmisve::*;
+/// use rahmisve::*;
 /// let mut header = [0; HEADER_BYTES];
 /// header[HEADER_ID] = 3;
 /// header[HEADER_SIZE] = 10;

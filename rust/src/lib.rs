@@ -1,5 +1,5 @@
-//! GVAR blocks, CDA time tags, recordings and the scan watch, over the proved archive `librahmisve.a`. The archive's manual is
-//! include/rahmisve.h. Here a refusal is an `Err` with a [`Refusal`], and a lent room is as it was after one.
+//! GVAR blocks, CDA time tags, recordings and the scan watch, over the proved archive `librahmisve.a`. The archive's
+//! manual is include/rahmisve.h. Here a refusal is an `Err` with a [`Refusal`], and a lent room is as it was after one.
 //!
 //! Nothing is allocated and nothing is kept between calls, so that everything may be called from any thread.
 //!
@@ -24,9 +24,10 @@
 //!
 //! # Which archive
 //!
-//! The crate is for archives of version [`VERSION`]. Which archive it is linked with is decided where it is built, by the folder that
-//! RAHMISVE_ARCHIVE_DIR names, and nothing can look at its version there: a program that wants to be sure asks first, with
-//! [`check_version`].
+//! The crate is for archives of version [`VERSION`]. Which archive it is linked with is decided where it is built, by
+//! the folder that RAHMISVE_ARCHIVE_DIR names, and nothing can look at its version there. A program that may be linked
+//! with another one must ask [`check_version`] first, and call nothing else where that is an `Err`: the functions here
+//! are safe over an archive of this version alone.
 #![no_std]
 #![warn(missing_docs)]
 
@@ -44,7 +45,7 @@ pub use block::{plan, read, write, Header, Plan, Read};
 pub use parity::{parity_imager, parity_sounder};
 pub use record::{place, record, Place};
 pub use recording::{first_text, last_text, line, line_text, next_field, Field, Fields, Found, Line, Listed};
-pub use refusal::Refusal;
+pub use refusal::{Refusal, Unlisted};
 pub use time::{elapsed, read_tag, write_tag, Time};
 pub use version::{check_version, version, OtherVersion, VERSION};
 pub use watch::{Verdict, Watch};

@@ -2,16 +2,19 @@
 
 use rahmisve_sys::{rahmisve_parity_imager, rahmisve_parity_sounder};
 
+#[cfg(doc)]
+use crate::Refusal::*;
 use crate::{answer, Refusal, IMAGER_MARKS, SOUNDER_MARKS};
 
-/// Whether the parity holds of each section of block 1 of the Imager spacelook set, in [`PARITY_WORDS`](crate::PARITY_WORDS) words.
+/// Whether the parity holds of each section of block 1 of the Imager spacelook set, in
+/// [`PARITY_WORDS`](crate::PARITY_WORDS) words.
 ///
 /// # Errors
 ///
-/// 8 where there are not so many words, then 14 for a word above 255.
+/// [`WrongLength`] (8) where there are not so many words, then [`LargeWord`] (14) for a word above 255.
 ///
 /// ```
-/// # use rahmisve::*;
+/// use rahmisve::*;
 /// let mut words = [0; PARITY_WORDS];
 /// assert_eq!(parity_imager(&words), Ok([true; IMAGER_MARKS]));
 /// words[300] = 9;
@@ -28,10 +31,11 @@ pub fn parity_imager(words: &[u16]) -> Result<[bool; IMAGER_MARKS], Refusal> {
 ///
 /// # Errors
 ///
-/// 8 where there are not [`PARITY_WORDS`](crate::PARITY_WORDS) words, then 14 for a word above 255.
+/// [`WrongLength`] (8) where there are not [`PARITY_WORDS`](crate::PARITY_WORDS) words, then [`LargeWord`] (14) for a
+/// word above 255.
 ///
 /// ```
-/// # use rahmisve::*;
+/// use rahmisve::*;
 /// let mut words = [0; PARITY_WORDS];
 /// words[0] = 256;
 /// assert_eq!(parity_sounder(&words), Err(Refusal::LargeWord));

@@ -2,16 +2,19 @@
 
 use rahmisve_sys::{rahmisve_place, rahmisve_record};
 
+#[cfg(doc)]
+use crate::Refusal::*;
 use crate::{answer, Refusal};
 
 /// The part of a block's words that is record `record`, from 1. There may be more words than the header counts.
 ///
 /// # Errors
 ///
-/// The first that holds of 1, 4, 5, 6, 7, 13 and 9.
+/// The first that holds of [`NoHeader`] (1), [`UnknownBlock`] (4), [`UnknownVersion`] (5), [`WrongSize`] (6),
+/// [`WrongCount`] (7), [`NoRecord`] (13) and [`SmallRoom`] (9).
 ///
 /// ```
-/// # use rahmisve::*;
+/// use rahmisve::*;
 /// # let mut header = [0; HEADER_BYTES];
 /// # (header[HEADER_ID], header[HEADER_SIZE], header[HEADER_COUNT + 1]) = (1, 10, 68 + EXTRA_WORDS as u8);
 /// # let words: [u16; 68] = core::array::from_fn(|i| i as u16);
@@ -40,15 +43,15 @@ pub struct Place {
     pub detector: u8,
 }
 
-/// Which channel and detector record `record`, from 1, of a block holds: the fixed placement of an upright spacecraft without
-/// co-registration.
+/// Which channel and detector record `record`, from 1, of a block holds: the fixed placement of an upright spacecraft
+/// without co-registration.
 ///
 /// # Errors
 ///
-/// The first that holds of 4, 5 and 13.
+/// The first that holds of [`UnknownBlock`] (4), [`UnknownVersion`] (5) and [`NoRecord`] (13).
 ///
 /// ```
-/// # use rahmisve::*;
+/// use rahmisve::*;
 /// assert_eq!(place(2, 3, 3), Ok(Place { channel: 6, detector: 1 }));
 /// assert_eq!(place(3, 3, 2), Err(Refusal::NoRecord));
 /// ```

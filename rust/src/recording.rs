@@ -1,9 +1,12 @@
 //! Recordings: their fields, the line of a field, and the text of a listing.
 
+use core::fmt;
 use core::iter::FusedIterator;
 
 use rahmisve_sys::{rahmisve_first_text, rahmisve_last_text, rahmisve_line, rahmisve_line_text, rahmisve_next_field};
 
+#[cfg(doc)]
+use crate::Refusal::*;
 use crate::{answer, Refusal};
 
 /// A field of a recording.
@@ -29,7 +32,7 @@ pub enum Found<'a> {
 /// What stands in a recording at byte `at`, which may be anywhere. [`Fields`] goes from one field to the next.
 ///
 /// ```
-/// # use rahmisve::*;
+/// use rahmisve::*;
 /// let recording = [2, 0, 1, 77, 1, 0];
 /// assert_eq!(next_field(&recording, 0), Found::Field(Field { tag: 2, body: &[77] }, 4));
 /// assert_eq!(next_field(&recording, 4), Found::Cut);
@@ -48,17 +51,17 @@ pub fn next_field(recording: &[u8], at: usize) -> Found<'_> {
     }
 }
 
-/// The complete fields of a recording, in order. Behind the last one, [`is_cut`](Fields::is_cut) says whether the recording stops inside
-/// a field.
+/// The complete fields of a recording, in order. Behind the last one, [`is_cut`](Fields::is_cut) says whether the
+/// recording stops inside a field.
 ///
 /// ```
-/// # use rahmisve::*;
+/// use rahmisve::*;
 /// let recording = [2, 0, 1, 77, 3, 0, 0, 1, 0];
 /// let mut fields = Fields::of(&recording);
 /// let tags: Vec<u8> = fields.by_ref().map(|field| field.tag).collect();
 /// assert_eq!((tags, fields.is_cut()), (vec![2, 3], true));
 /// ```
-#[derive(Clone, Debug)]
+#[derive(Clone)]
 #[must_use = "an iterator does nothing by itself"]
 pub struct Fields<'a> {
     recording: &'a [u8],
@@ -69,7 +72,7 @@ impl<'a> Fields<'a> {
     /// The fields of a recording, from its first byte on.
     ///
     /// ```
-    /// # use rahmisve::*;
+    /// use rahmisve::*;
     /// assert_eq!(Fields::of(&[2, 0, 1, 77]).next(), Some(Field { tag: 2, body: &[77] }));
     /// ```
     pub fn of(recording: &'a [u8]) -> Fields<'a> {
@@ -79,7 +82,7 @@ impl<'a> Fields<'a> {
     /// Whether there is no further field but a part of one.
     ///
     /// ```
-    /// # use rahmisve::*;
+    /// use rahmisve::*;
     /// assert!(Fields::of(&[2, 0, 1]).is_cut());
     /// assert!(!Fields::of(&[]).is_cut());
     /// ```
@@ -101,6 +104,13 @@ impl<'a> Iterator for Fields<'a> {
 
 impl FusedIterator for Fields<'_> {}
 
+/// Where it is, and how long the recording is: the bytes would be a page of numbers.
+impl fmt::Debug for Fields<'_> {
+    fn fmt(&self, f: &mut fmt::Formatter<'_>) -> fmt::Result {
+        f.debug_struct("Fields").field("at", &self.at).field("length", &self.recording.len()).finish()
+    }
+}
+
 /// What the listing says of a block that is accepted.
 #[derive(Clone, Copy, Debug, PartialEq, Eq)]
 pub struct Listed {
@@ -121,12 +131,14 @@ pub struct Line {
     pub answer: Result<Listed, Refusal>,
 }
 
-/// The line of the field behind `before` complete ones. Its block, if it holds one, is read to the room as by [`read`](crate::read).
+/// The line of the field behind `before` complete ones. Its block, if it holds one, is read to the room as by
+/// [`read`](crate::read).
 ///
-/// The answer is `Err` with 15 where the tag is another than 1, else with what the reader refuses the body for.
+/// The answer is `Err` with [`OtherField`] (15) where the tag is another than 1, else with what the reader refuses the
+/// body for.
 ///
 /// ```
-/// # use rahmisve::*;
+/// use rahmisve::*;
 /// let other = line(4, Field { tag: 2, body: &[] }, &mut []);
 /// assert_eq!(other, Line { seq: 5, answer: Err(Refusal::OtherField) });
 /// ```
@@ -160,15 +172,15 @@ fn text(number: u8, room: &[u8], bytes: usize) -> Result<&str, Refusal> {
     Ok(core::str::from_utf8(front).unwrap_or_default())
 }
 
-/// The first line of a listing, which names the columns, at the front of the room. A room of [`LINE_BYTES`](crate::LINE_BYTES) is enough
-/// for any line.
+/// The first line of a listing, which names the columns, at the front of the room. A room of
+/// [`LINE_BYTES`](crate::LINE_BYTES) is enough for any line.
 ///
 /// # Errors
 ///
-/// 9. The room is as it was.
+/// [`SmallRoom`] (9). The room is as it was.
 ///
 /// ```
-/// # use rahmisve::*;
+/// use rahmisve::*;
 /// assert_eq!(first_text(&mut [0; LINE_BYTES]), Ok("seq block version words answer\n"));
 /// assert_eq!(first_text(&mut []), Err(Refusal::SmallRoom));
 /// ```
@@ -183,10 +195,10 @@ pub fn first_text(room: &mut [u8]) -> Result<&str, Refusal> {
 ///
 /// # Errors
 ///
-/// 9. The room is as it was.
+/// [`SmallRoom`] (9). The room is as it was.
 ///
 /// ```
-/// # use rahmisve::*;
+/// use rahmisve::*;
 /// let mut room = [0; LINE_BYTES];
 /// let good = Line { seq: 1, answer: Ok(Listed { block: 3, version: 2, word_count: 20 }) };
 /// assert_eq!(line_text(&good, &mut room), Ok("1 3 2 20 0\n"));
@@ -215,14 +227,15 @@ pub fn line_text<'a>(line: &Line, room: &'a mut [u8]) -> Result<&'a str, Refusal
     text(number, room, bytes)
 }
 
-/// The last line of a listing, at the front of the room: how many complete fields there are, and whether the recording is cut behind them.
+/// The last line of a listing, at the front of the room: how many complete fields there are, and whether the recording
+/// is cut behind them.
 ///
 /// # Errors
 ///
-/// 9. The room is as it was.
+/// [`SmallRoom`] (9). The room is as it was.
 ///
 /// ```
-/// # use rahmisve::*;
+/// use rahmisve::*;
 /// let mut room = [0; LINE_BYTES];
 /// assert_eq!(last_text(false, 2, &mut room), Ok("end 2\n"));
 /// assert_eq!(last_text(true, 2, &mut room), Ok("cut 2\n"));

@@ -2,22 +2,43 @@
 
 use core::fmt;
 
+/// A number that this crate has no name for. Only the crate makes one, out of an answer:
+///
+/// ```compile_fail
+/// let made = rahmisve::Unlisted(0);
+/// ```
+#[derive(Clone, Copy, Debug, PartialEq, Eq, Hash)]
+pub struct Unlisted(u8);
+
 macro_rules! refusals {
-    ($($name:ident, $number:literal, $text:literal;)*) => {
+    ($($(#[$more:meta])* $name:ident, $number:literal, $text:literal;)*) => {
         /// Why something was refused. The numbers and texts are those of the manual.
         #[non_exhaustive]
         #[derive(Clone, Copy, Debug, PartialEq, Eq, Hash)]
         pub enum Refusal {
-            $(#[doc = concat!($number, ": ", $text, ".")] $name,)*
+            $(#[doc = concat!($number, ": ", $text, ".")] $(#[$more])* $name,)*
             /// A number that this crate has no name for: the archive is of another version.
-            Unlisted(u8),
+            Unlisted(Unlisted),
         }
 
         impl Refusal {
             pub(crate) fn of(number: u8) -> Refusal {
+                Refusal::from_number(number).unwrap_or(Refusal::Unlisted(Unlisted(number)))
+            }
+
+            /// The refusal of a number of the manual, as in a listing. There is none for 0, which is accepted, and none
+            /// for a number that the manual does not have.
+            ///
+            /// ```
+            /// use rahmisve::Refusal;
+            /// assert_eq!(Refusal::from_number(10), Some(Refusal::CheckDisagrees));
+            /// assert_eq!((Refusal::from_number(0), Refusal::from_number(18)), (None, None));
+            /// ```
+            #[must_use]
+            pub const fn from_number(number: u8) -> Option<Refusal> {
                 match number {
-                    $($number => Refusal::$name,)*
-                    number => Refusal::Unlisted(number),
+                    $($number => Some(Refusal::$name),)*
+                    _ => None,
                 }
             }
 
@@ -30,7 +51,7 @@ macro_rules! refusals {
             pub const fn number(self) -> u8 {
                 match self {
                     $(Refusal::$name => $number,)*
-                    Refusal::Unlisted(number) => number,
+                    Refusal::Unlisted(Unlisted(number)) => number,
                 }
             }
 
@@ -50,23 +71,30 @@ macro_rules! refusals {
     };
 }
 
+// A comment says where a number has more grounds than its text names.
 refusals! {
     NoHeader, 1, "a block of fewer than 90 bytes, or a header not of 28";
     NoCopyPasses, 2, "none of the three header copies passes its check";
     CopiesDiffer, 3, "two header copies pass and differ";
     UnknownBlock, 4, "an unknown block id, or a block number above 11";
     UnknownVersion, 5, "a version above 3";
+    /// In this block; a size outside 1 to 16, where no block is asked about.
     WrongSize, 6, "no words of this size";
     WrongCount, 7, "the block cannot have this count of words";
+    /// Too few bits, where words are taken out of a field.
     WrongLength, 8, "not the required number of bytes or words";
+    /// Too few words are fewer than the header counts, where a record is asked for.
     SmallRoom, 9, "too little room, or too few words";
     CheckDisagrees, 10, "the check word is not that of the field";
     FillNotZero, 11, "a bit behind the last word is 1";
+    /// One not of eight bytes too, and an open watch whose last tag is bad.
     BadTag, 12, "a bad time tag";
+    /// An open watch that expects none of the blocks 1 to 10.
     NoRecord, 13, "no such record, or no such expected block";
     LargeWord, 14, "a word too large for its size";
     OtherField, 15, "a field of a recording with another tag than 1";
     LongLimit, 16, "a waiting limit above 3,600,000 ms";
+    /// No block has one: every field is a multiple of 16 bits.
     OffBoundary, 17, "a check word off its 16-bit boundary";
 }
 
@@ -77,3 +105,14 @@ impl fmt::Display for Refusal {
 }
 
 impl core::error::Error for Refusal {}
+
+#[cfg(test)]
+mod tests {
+    use super::Refusal;
+
+    #[test]
+    fn a_number_without_a_name_is_kept() {
+        assert_eq!((Refusal::of(18).number(), Refusal::of(255).number()), (18, 255));
+        assert_eq!(Refusal::of(17), Refusal::OffBoundary);
+    }
+}

@@ -2,9 +2,12 @@
 
 use rahmisve_sys::{rahmisve_elapsed, rahmisve_read_tag, rahmisve_write_tag};
 
+#[cfg(doc)]
+use crate::Refusal::*;
 use crate::{answer, Refusal, TAG_BYTES, TIME_NUMBERS};
 
-/// The numbers of a time tag. Any may be put here; the writer refuses those out of bounds.
+/// The numbers of a time tag. Any may be put here; the writer refuses those out of bounds. The default has day 0, so it
+/// is no time by itself: it fills the numbers that are not named.
 #[derive(Clone, Copy, Debug, Default, PartialEq, Eq)]
 pub struct Time {
     /// 0 to 9999.
@@ -38,10 +41,10 @@ impl Time {
 ///
 /// # Errors
 ///
-/// 12.
+/// [`BadTag`] (12).
 ///
 /// ```
-/// # use rahmisve::*;
+/// use rahmisve::*;
 /// let time = read_tag(&[0x20, 0x08, 0x06, 0x02, 0x35, 0x95, 0x99, 0x99])?;
 /// assert_eq!((time.year, time.day, time.hour, time.millisecond, time.flywheel), (2008, 60, 23, 999, false));
 /// # Ok::<(), Refusal>(())
@@ -57,13 +60,14 @@ pub fn read_tag(tag: &[u8]) -> Result<Time, Refusal> {
 ///
 /// # Errors
 ///
-/// 12 where a number is out of bounds.
+/// [`BadTag`] (12) where a number is out of bounds, as day 0 of the default is.
 ///
 /// ```
-/// # use rahmisve::*;
+/// use rahmisve::*;
 /// let tag = write_tag(&Time { year: 2008, day: 366, ..Time::default() })?;
 /// assert_eq!(tag, [0x20, 0x08, 0x36, 0x60, 0, 0, 0, 0]);
 /// assert_eq!(write_tag(&Time { year: 2007, day: 366, ..Time::default() }), Err(Refusal::BadTag));
+/// assert_eq!(write_tag(&Time::default()), Err(Refusal::BadTag));
 /// # Ok::<(), Refusal>(())
 /// ```
 pub fn write_tag(time: &Time) -> Result<[u8; TAG_BYTES], Refusal> {
@@ -77,10 +81,10 @@ pub fn write_tag(time: &Time) -> Result<[u8; TAG_BYTES], Refusal> {
 ///
 /// # Errors
 ///
-/// 12.
+/// [`BadTag`] (12).
 ///
 /// ```
-/// # use rahmisve::*;
+/// use rahmisve::*;
 /// let late = write_tag(&Time { year: 2007, day: 365, ..Time::default() })?;
 /// let next = write_tag(&Time { year: 2008, day: 1, ..Time::default() })?;
 /// assert_eq!(elapsed(&late, &next), Ok(86_400_000));

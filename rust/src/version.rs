@@ -33,17 +33,16 @@ impl fmt::Display for OtherVersion {
 
 impl core::error::Error for OtherVersion {}
 
-/// Refuses an archive of another version. A program calls it once, before anything else.
+/// Refuses an archive of another version. A program that may be linked with one calls it once, before anything else.
 ///
 /// # Errors
 ///
 /// [`OtherVersion`] where [`version`] is not [`VERSION`].
 ///
 /// ```
-/// fn main() -> Result<(), Box<dyn std::error::Error>> {
-///     rahmisve::check_version()?;
-///     // whatever the program does
-///     Ok(())
+/// if let Err(other) = rahmisve::check_version() {
+///     eprintln!("{other}");
+///     std::process::exit(2);
 /// }
 /// ```
 pub fn check_version() -> Result<(), OtherVersion> {

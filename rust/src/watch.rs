@@ -2,6 +2,8 @@
 
 use rahmisve_sys::{rahmisve_watch_begin, rahmisve_watch_offer};
 
+#[cfg(doc)]
+use crate::Refusal::*;
 use crate::{answer, Refusal, Time, WATCH_NUMBERS};
 
 /// What an accepted offer did.
@@ -26,7 +28,7 @@ pub enum Verdict {
 /// A watch over the blocks 0 to 10 of a scan: ten numbers, as the manual has them.
 ///
 /// ```
-/// # use rahmisve::*;
+/// use rahmisve::*;
 /// let second = |second| write_tag(&Time { year: 2008, day: 60, second, ..Time::default() });
 /// let mut watch = Watch::begin(10_000)?;
 /// assert_eq!(watch.offer(0, &second(5)?), Ok(Verdict::Opened));
@@ -43,10 +45,10 @@ impl Watch {
     ///
     /// # Errors
     ///
-    /// 16 for a limit above [`LONGEST_WAIT_MS`](crate::LONGEST_WAIT_MS).
+    /// [`LongLimit`] (16) for a limit above [`LONGEST_WAIT_MS`](crate::LONGEST_WAIT_MS).
     ///
     /// ```
-    /// # use rahmisve::*;
+    /// use rahmisve::*;
     /// assert!(Watch::begin(LONGEST_WAIT_MS).is_ok());
     /// assert_eq!(Watch::begin(LONGEST_WAIT_MS + 1), Err(Refusal::LongLimit));
     /// ```
@@ -57,17 +59,23 @@ impl Watch {
         answer(number, Watch(numbers))
     }
 
-    /// Offers a block and the bytes of its tag. A closing block 0 also opens a new scan: see [`is_open`](Watch::is_open).
+    /// Offers a block and the bytes of its tag. A closing block 0 also opens a new scan: see
+    /// [`is_open`](Watch::is_open). Block 11 is no block of a scan: one that comes to an open watch in time is
+    /// [`Broken`](Verdict::Broken), and closes it.
     ///
     /// # Errors
     ///
-    /// The first that holds of 16, 13 and 12 for the watch itself, which only one made by [`of`](Watch::of) can be refused for, 4 for the
-    /// block, and 12 for its tag. The watch is as it was.
+    /// The first that holds of [`LongLimit`] (16), [`NoRecord`] (13) and [`BadTag`] (12) for the watch itself, which
+    /// only one made by [`of`](Watch::of) can be refused for, [`UnknownBlock`] (4) for the block, and [`BadTag`] (12)
+    /// for its tag. The watch is as it was.
     ///
     /// ```
-    /// # use rahmisve::*;
+    /// use rahmisve::*;
     /// let mut watch = Watch::begin(1_000)?;
-    /// assert_eq!(watch.offer(12, &[0; TAG_BYTES]), Err(Refusal::UnknownBlock));
+    /// let tag = write_tag(&Time { year: 2008, day: 60, ..Time::default() })?;
+    /// assert_eq!(watch.offer(0, &tag), Ok(Verdict::Opened));
+    /// assert_eq!(watch.offer(12, &tag), Err(Refusal::UnknownBlock));
+    /// assert_eq!(watch.offer(11, &tag), Ok(Verdict::Broken));
     /// # Ok::<(), Refusal>(())
     /// ```
     pub fn offer(&mut self, block: u32, tag: &[u8]) -> Result<Verdict, Refusal> {
@@ -90,7 +98,7 @@ impl Watch {
     /// Whether a scan is open.
     ///
     /// ```
-    /// # use rahmisve::*;
+    /// use rahmisve::*;
     /// assert!(!Watch::begin(1_000)?.is_open());
     /// # Ok::<(), Refusal>(())
     /// ```
@@ -102,7 +110,7 @@ impl Watch {
     /// The next expected block, while a scan is open.
     ///
     /// ```
-    /// # use rahmisve::*;
+    /// use rahmisve::*;
     /// let mut watch = Watch::begin(1_000)?;
     /// assert_eq!(watch.expected(), None);
     /// watch.offer(0, &write_tag(&Time { year: 2008, day: 60, ..Time::default() })?)?;
@@ -117,7 +125,7 @@ impl Watch {
     /// The last tag's time, while a scan is open.
     ///
     /// ```
-    /// # use rahmisve::*;
+    /// use rahmisve::*;
     /// let time = Time { year: 2008, day: 60, ..Time::default() };
     /// let mut watch = Watch::begin(1_000)?;
     /// watch.offer(0, &write_tag(&time)?)?;
@@ -133,7 +141,7 @@ impl Watch {
     /// The waiting limit in ms.
     ///
     /// ```
-    /// # use rahmisve::*;
+    /// use rahmisve::*;
     /// assert_eq!(Watch::begin(1_000)?.limit(), 1_000);
     /// # Ok::<(), Refusal>(())
     /// ```
@@ -145,7 +153,7 @@ impl Watch {
     /// The ten numbers, to be kept somewhere.
     ///
     /// ```
-    /// # use rahmisve::*;
+    /// use rahmisve::*;
     /// assert_eq!(Watch::begin(1_000)?.numbers(), [0, 0, 0, 0, 0, 0, 0, 0, 0, 1_000]);
     /// # Ok::<(), Refusal>(())
     /// ```
@@ -154,10 +162,11 @@ impl Watch {
         self.0
     }
 
-    /// A watch of ten numbers that were kept, of any value: what is out of bounds is refused by the offer that would use it.
+    /// A watch of ten numbers that were kept, of any value: what is out of bounds is refused by the offer that would
+    /// use it.
     ///
     /// ```
-    /// # use rahmisve::*;
+    /// use rahmisve::*;
     /// let watch = Watch::begin(1_000)?;
     /// assert_eq!(Watch::of(watch.numbers()), watch);
     /// # Ok::<(), Refusal>(())

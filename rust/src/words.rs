@@ -2,6 +2,8 @@
 
 use rahmisve_sys::{rahmisve_check_word, rahmisve_put_words, rahmisve_take_words};
 
+#[cfg(doc)]
+use crate::Refusal::*;
 use crate::{answer, Refusal};
 
 /// The check word of a message, which follows it high byte first.
@@ -19,10 +21,11 @@ pub fn check_word(message: &[u8]) -> u16 {
 ///
 /// # Errors
 ///
-/// 6 for another size, then 8 where the field has fewer bits, then 9. The room is as it was.
+/// [`WrongSize`] (6) for another size, then [`WrongLength`] (8) where the field has fewer bits, then [`SmallRoom`] (9).
+/// The room is as it was.
 ///
 /// ```
-/// # use rahmisve::*;
+/// use rahmisve::*;
 /// let mut room = [0; 4];
 /// take_words(&[0x00, 0x40, 0x20, 0x0C, 0x04], 10, 4, &mut room)?;
 /// assert_eq!(room, [1, 2, 3, 4]);
@@ -39,10 +42,11 @@ pub fn take_words(field: &[u8], size: u32, count: usize, room: &mut [u16]) -> Re
 ///
 /// # Errors
 ///
-/// 6 for another size, then 9 where the field has fewer bits, then 14. The field is as it was.
+/// [`WrongSize`] (6) for another size, then [`SmallRoom`] (9) where the field has fewer bits, then [`LargeWord`] (14).
+/// The field is as it was.
 ///
 /// ```
-/// # use rahmisve::*;
+/// use rahmisve::*;
 /// let mut field = [0xFF; 4];
 /// put_words(&[1, 2, 3, 4], 6, &mut field)?;
 /// assert_eq!(field, [0x04, 0x20, 0xC4, 0x00]);

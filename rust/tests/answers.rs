@@ -151,6 +151,7 @@ fn tags() {
     for wrong in [
         Time { year: 10_000, ..time },
         Time { day: 0, ..time },
+        Time::default(),
         Time { hour: 256 + 23, ..time },
         Time { millisecond: 65_536, ..time },
     ] {
@@ -183,6 +184,8 @@ fn a_scan_under_watch() {
     watch = kept;
     assert_eq!(watch.offer(0, &NEXT), Ok(Verdict::Broken));
     assert_eq!(watch.expected(), Some(1));
+    watch = kept;
+    assert_eq!((watch.offer(11, &NEXT), watch.is_open()), (Ok(Verdict::Broken), false));
     let late = [0x20, 0x08, 0x06, 0x10, 0, 0, 0x05, 0x01];
     watch = kept;
     assert_eq!(watch.offer(10, &late), Ok(Verdict::Late));
@@ -232,7 +235,10 @@ fn a_refusal_says_why() {
     let text = Refusal::BadTag.text();
     let boxed: Box<dyn std::error::Error> = Box::new(Refusal::BadTag);
     assert_eq!(boxed.to_string(), format!("refusal 12: {text}"));
-    assert_eq!(Refusal::Unlisted(99).number(), 99);
+    for number in 0..=255 {
+        let named = Refusal::from_number(number);
+        assert_eq!(named.map(Refusal::number), (1..=17).contains(&number).then_some(number));
+    }
 }
 
 #[test]
@@ -262,6 +268,7 @@ fn the_fields_of_a_recording() {
         let mut fields = Fields::of(&recording[..end]);
         assert_eq!((fields.by_ref().count(), fields.is_cut()), (whole, ![0, 6, 9].contains(&end)), "{end} bytes");
     }
+    assert_eq!(format!("{fields:?}"), "Fields { at: 65547, length: 65547 }");
     for at in [recording.len(), recording.len() + 1, usize::MAX] {
         assert_eq!(next_field(&recording, at), Found::End);
     }
