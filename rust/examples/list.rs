@@ -1,7 +1,9 @@
-//! list [FILE]: lists a recording, of the file or of standard input, as the program `list` does, with the library's lines and texts.
+//! list [FILE]: lists a recording, of the file or of standard input, as the program `list` does, with the library's
+//! lines and texts.
 
 use std::error::Error;
 use std::io::{stdin, stdout, BufWriter, Read, Write};
+use std::process::ExitCode;
 
 use rahmisve::*;
 
@@ -14,7 +16,7 @@ fn input() -> Result<Vec<u8>, String> {
     std::fs::read(&name).map_err(|why| format!("{name}: {why}"))
 }
 
-fn main() -> Result<(), Box<dyn Error>> {
+fn run() -> Result<(), Box<dyn Error>> {
     check_version()?;
     let recording = input()?;
     let mut room = vec![0; MOST_WORDS];
@@ -32,4 +34,14 @@ fn main() -> Result<(), Box<dyn Error>> {
     out.write_all(last_text(fields.is_cut(), count, &mut text)?.as_bytes())?;
     out.flush()?;
     Ok(())
+}
+
+fn main() -> ExitCode {
+    match run() {
+        Ok(()) => ExitCode::SUCCESS,
+        Err(why) => {
+            eprintln!("{why}");
+            ExitCode::from(2)
+        }
+    }
 }

@@ -1,9 +1,11 @@
-//! read [FILE]: reads one block, of the file or of standard input, and prints what it holds: the header's numbers, which header copies
-//! passed, each detector record with its channel and detector, and the time. What examples/read.c does, in Rust.
+//! read [FILE]: reads one block, of the file or of standard input, and prints what it holds: the header's numbers,
+//! which header copies passed, each detector record with its channel and detector, and the time. What examples/read.c
+//! does, in Rust.
 
 use std::error::Error;
 use std::fs::File;
 use std::io::{stdin, stdout, Read, Write};
+use std::process::ExitCode;
 
 use rahmisve::*;
 
@@ -20,7 +22,8 @@ fn input() -> Result<Vec<u8>, String> {
     Ok(block)
 }
 
-/// The records among the words, each with what it holds and its first pixel, which stands behind the line documentation.
+/// The records among the words, each with what it holds and its first pixel, which stands behind the line
+/// documentation.
 fn print_records(plan: &Plan, header: &Header, words: &[u16], out: &mut impl Write) -> Result<(), Box<dyn Error>> {
     let mut start = 0;
     for k in 1..=plan.records.into() {
@@ -46,7 +49,7 @@ fn print_time(tag: &[u8], out: &mut impl Write) -> Result<(), Box<dyn Error>> {
     Ok(())
 }
 
-fn main() -> Result<(), Box<dyn Error>> {
+fn run() -> Result<ExitCode, Box<dyn Error>> {
     check_version()?;
     let block = input()?;
     let mut words = vec![0; MOST_WORDS];
@@ -55,7 +58,7 @@ fn main() -> Result<(), Box<dyn Error>> {
         Ok(got) => got,
         Err(why) => {
             writeln!(out, "refused: {}, {}", why.number(), why.text())?;
-            std::process::exit(1);
+            return Ok(ExitCode::FAILURE);
         }
     };
     let plan = plan(&got.header)?;
@@ -64,5 +67,13 @@ fn main() -> Result<(), Box<dyn Error>> {
     let passed: String = (1..).zip(got.copies).filter(|(_, passed)| *passed).map(|(k, _)| format!(" {k}")).collect();
     writeln!(out, "header copies that passed:{passed}")?;
     print_records(&plan, &got.header, &words, &mut out)?;
-    print_time(&got.header[HEADER_TIME..HEADER_TIME + TAG_BYTES], &mut out)
+    print_time(&got.header[HEADER_TIME..HEADER_TIME + TAG_BYTES], &mut out)?;
+    Ok(ExitCode::SUCCESS)
+}
+
+fn main() -> ExitCode {
+    run().unwrap_or_else(|why| {
+        eprintln!("{why}");
+        ExitCode::from(2)
+    })
 }

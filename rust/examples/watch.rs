@@ -1,9 +1,10 @@
-//! watch [FILE]: offers the blocks of a recording, of the file or of standard input, to a scan watch, and prints what opens a scan and what
-//! closes it: the field, its block and SPS time, the verdict. A field that is refused is named with the reason. What examples/watch.c does,
-//! in Rust.
+//! watch [FILE]: offers the blocks of a recording, of the file or of standard input, to a scan watch, and prints what
+//! opens a scan and what closes it: the field, its block and SPS time, the verdict. A field that is refused is named
+//! with the reason. What examples/watch.c does, in Rust.
 
 use std::error::Error;
 use std::io::{stdin, stdout, Read, Write};
+use std::process::ExitCode;
 
 use rahmisve::*;
 
@@ -45,7 +46,7 @@ fn offer(watch: &mut Watch, body: &[u8], room: &mut [u16]) -> Result<(u8, Time, 
     Ok((block, read_tag(tag)?, verdict))
 }
 
-fn main() -> Result<(), Box<dyn Error>> {
+fn run() -> Result<ExitCode, Box<dyn Error>> {
     check_version()?;
     let (recording, name) = input()?;
     let mut room = vec![0; MOST_WORDS];
@@ -72,7 +73,14 @@ fn main() -> Result<(), Box<dyn Error>> {
     }
     if fields.is_cut() {
         eprintln!("{name}: cut behind field {count}");
-        std::process::exit(1);
+        return Ok(ExitCode::FAILURE);
     }
-    Ok(())
+    Ok(ExitCode::SUCCESS)
+}
+
+fn main() -> ExitCode {
+    run().unwrap_or_else(|why| {
+        eprintln!("{why}");
+        ExitCode::from(2)
+    })
 }

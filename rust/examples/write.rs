@@ -1,15 +1,16 @@
-//! Writes a block to standard output: block 1 of version 2, with its four records of one pixel each, and 2008 day 60, 23:59:59.999 as its
-//! time. What examples/write.c does, in Rust.
+//! Writes a block to standard output: block 1 of version 2, with its four records of one pixel each, and 2008 day 60,
+//! 23:59:59.999 as its time. What examples/write.c does, in Rust.
 
 use std::error::Error;
 use std::io::{stdout, Write};
+use std::process::ExitCode;
 
 use rahmisve::*;
 
 const RECORD: usize = DOCUMENTATION_WORDS + 1;
 const WORDS: usize = 4 * RECORD;
 
-fn main() -> Result<(), Box<dyn Error>> {
+fn run() -> Result<(), Box<dyn Error>> {
     check_version()?;
     let time = Time { year: 2008, day: 60, hour: 23, minute: 59, second: 59, millisecond: 999, flywheel: false };
     let mut header = [0; HEADER_BYTES];
@@ -25,4 +26,14 @@ fn main() -> Result<(), Box<dyn Error>> {
     let bytes = write(&header, &words, &mut room)?;
     stdout().write_all(&room[..bytes])?;
     Ok(())
+}
+
+fn main() -> ExitCode {
+    match run() {
+        Ok(()) => ExitCode::SUCCESS,
+        Err(why) => {
+            eprintln!("{why}");
+            ExitCode::from(2)
+        }
+    }
 }
