@@ -73,13 +73,12 @@ macro_rules! refusals {
 
 // A comment says where a number has more grounds than its text names.
 refusals! {
-    NoHeader, 1, "a block of fewer than 90 bytes, or a header not of 28";
+    NoHeader, 1, "a block of fewer than 90 bytes, or a header not of 28 bytes";
     NoCopyPasses, 2, "none of the three header copies passes its check";
     CopiesDiffer, 3, "two header copies pass and differ";
     UnknownBlock, 4, "an unknown block id, or a block number above 11";
     UnknownVersion, 5, "a version above 3";
-    /// In this block; a size outside 1 to 16, where no block is asked about.
-    WrongSize, 6, "no words of this size";
+    WrongSize, 6, "a word size that the block cannot have, or outside 1 to 16";
     WrongCount, 7, "the block cannot have this count of words";
     /// Too few bits, where words are taken out of a field.
     WrongLength, 8, "not the required number of bytes or words";
