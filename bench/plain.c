@@ -68,7 +68,7 @@ size_t plain_read(const uint8_t *block, size_t len, uint16_t *room, size_t room_
     number = row_of(common, &row);
     if (number != 0)
         return number;
-    if (len != FRONT + row.field + 2) /* an even number, so 17 can't arise */
+    if (len != FRONT + row.field + 2) /* an even number, so 17 cannot arise */
         return 8;
     if (room_len < row.count)
         return 9;

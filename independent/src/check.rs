@@ -1,5 +1,6 @@
-//! The check word: generator x^16 + x^12 + x^5 + 1, all ones at the start, the
-//! remainder complemented (section 3.3.3). Bits go as sent, highest first.
+//! The check word: the generator is x^16 + x^12 + x^5 + 1, all ones at the
+//! start, the remainder complemented (section 3.3.3). Bits go as sent, highest
+//! first.
 
 const GENERATOR: u16 = 0x1021;
 

@@ -24,7 +24,7 @@ impl Findings {
     }
 }
 
-/// A header with zeros in every word that isn't named.
+/// A header with zeros in every word that is not named.
 pub fn header(id: u8, size: u8, version: u8, c: u16) -> [u8; 28] {
     let mut header = [0; 28];
     header[0] = id;

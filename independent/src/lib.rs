@@ -1,6 +1,6 @@
-//! GVAR blocks, time tags and the scan watch, written a second time from the
-//! specification so that a library can be compared with it. Plain code comes
-//! before quick code everywhere here.
+//! Blocks, time tags, parity, the watch and recordings, written a second time
+//! from the specification so that a library can be compared with it. Plain code
+//! comes before quick code everywhere here.
 
 pub mod block;
 pub mod check;

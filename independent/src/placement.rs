@@ -1,4 +1,4 @@
-//! Which channel and detector a record holds (section 3.2.1, normal mode).
+//! The channel and the detector of a record (section 3.2.1, normal mode).
 
 /// The number, the channel and the detector; records count from 1.
 pub fn place(block: u8, version: u8, record: u8) -> (u8, u8, u8) {

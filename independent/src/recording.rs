@@ -1,4 +1,5 @@
-//! A recording: one-byte tag, two-byte length, body; and its listing.
+//! A recording, field after field: a byte of tag, two of length, a body; and its
+//! listing.
 
 use crate::block::read;
 use crate::header::meaning;

@@ -41,7 +41,7 @@ impl Tag {
             && self.millisecond <= 999
     }
 
-    /// Milliseconds since year 0 began; the mark doesn't enter.
+    /// Milliseconds since year 0 began; the mark has no part in it.
     pub fn time(&self) -> i64 {
         let mut days = self.day as i64 - 1;
         for year in 0..self.year {
@@ -111,7 +111,7 @@ pub fn write_tag(tag: &Tag) -> (u8, [u8; 8]) {
     (0, bytes)
 }
 
-/// From the first to the second, negative where the second is earlier.
+/// From the first to the second, below zero where the second is the earlier one.
 pub fn elapsed(first: &[u8], second: &[u8]) -> (u8, i64) {
     match (try_read(first), try_read(second)) {
         (Ok(first), Ok(second)) => (0, second.time() - first.time()),

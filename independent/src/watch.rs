@@ -1,4 +1,4 @@
-//! The watch over blocks 0 to 10 of a scan.
+//! The watch that follows a scan, blocks 0 to 10.
 
 use crate::tags::{try_read, Tag};
 
@@ -39,7 +39,7 @@ fn idle(limit: u32) -> Watch {
     Watch { open: false, expected: 0, tag: Tag::default(), limit }
 }
 
-/// Refusals of the lent record: an idle one's block and tag aren't read.
+/// Refusals of the lent record: an idle one's block and tag are not read.
 fn record_refusal(watch: &Watch) -> Option<u8> {
     if watch.limit > LONGEST_WAIT {
         return Some(16);

@@ -49,7 +49,7 @@ takeAnswer size count field room =
     ∷ (9 when ltb room count)
     ∷ [])
 
--- the words stand at the front of the room, and nothing behind them has changed
+-- the words stand at the front of the room, and behind them nothing is changed
 abbrev pub roomTaken : ℕ → ℕ → List ℕ → List ℕ → List ℕ
 roomTaken size count field room =
     pick (eqb (takeAnswer size count field (length room)) 0) (wordsOf size count field ++ drop count room) room

@@ -1,5 +1,5 @@
--- Data marked not valid is read like any other: no word that is read is word 9, and what is read of a block beside its copies is its length
--- and what lies behind them.
+-- Data that is marked not valid is read all the same: no word that is read is word 9, and what is read of a block beside its copies is its
+-- length and what lies behind them.
 -- Assumes nothing.
 use Prim.Native.Nat.{ℕ, _<_}
 use mathlib.Core.Path.{_≡_, refl, sym, ap, _∙_, subst}

@@ -31,7 +31,7 @@ judgedBy h block room = pick (eqb (refusalBy h block room) 0) (acceptedJudged h)
 abbrev pub wordsBy : (h block : List ℕ) → List ℕ
 wordsBy h block = wordsOf (sizeIn h) (wordsIn h) (informationField (bytesIn h) block)
 
--- acceptance writes the C words at the front of the room and nothing behind them; a refusal leaves it unchanged
+-- acceptance writes the C words at the front of the room, and changes nothing behind them; a refusal leaves the room as it was
 abbrev pub wordsLaid : (h block room : List ℕ) → List ℕ
 wordsLaid h block room = wordsBy h block ++ drop (wordsIn h) room
 

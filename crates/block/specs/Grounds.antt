@@ -13,23 +13,23 @@ use Rattle.header.specs.Says.{sizeIn, wordsIn, bytesIn}
 use Rattle.header.specs.Plans.{headerGrounds, planGrounds}
 use Rattle.block.specs.Layout.{blockLength, informationField}
 
--- 8: block bytes not exactly the required number
+-- 8: more or fewer bytes than the block must have
 abbrev pub wrongLength : ℕ → List ℕ → Bool
 wrongLength bytes block = not (eqb (length block) (blockLength bytes))
 
--- 17: check word not on a 16-bit boundary of the block
+-- 17: the check word begins off a 16-bit boundary of the block
 abbrev pub offBoundary : ℕ → Bool
 offBoundary bytes = not (eqb ((copiesLength + bytes) % 2) 0)
 
--- 9: lent room smaller than needed
+-- 9: less room than is needed
 abbrev pub smallRoom : ℕ → ℕ → Bool
 smallRoom words room = ltb room words
 
--- 10: block check disagrees: it covers the information field, and follows it
+-- 10: the block's check does not agree: it covers the whole information field, and follows it
 abbrev pub checkDisagrees : List ℕ → Bool
 checkDisagrees block = not (passes (drop copiesLength block))
 
--- 11: a fill bit is 1
+-- 11: a bit of the fill is 1
 abbrev pub fillNotZero : (size words : ℕ) → List ℕ → Bool
 fillNotZero size words field = not (allZero (fillOf size words field))
 

@@ -1,4 +1,4 @@
--- How a block as lent is laid out: 90 bytes of header, the information field, and 2 bytes of check word.
+-- How a block that is lent is laid out: 90 bytes of header, then the information field, then two bytes of check word.
 -- Assumes nothing.
 use Prim.Native.Nat.{ℕ, _+_}
 use mathlib.Core.List.{List}

@@ -14,7 +14,7 @@ use Rattle.header.specs.Asks.{Asks}
 use Rattle.block.specs.Layout.{blockLength, informationField}
 
 -- The passing copies are one, whose first 28 bytes ask for a block of `words` words of `size` bits. The block is as long as these take; the
--- field is followed by its check word; bits after the last word are zero.
+-- field is followed by its check word; every bit behind the last word is zero.
 pub record Meets (block : List ℕ) : Type 0 where
   pub copy : List ℕ
   pub number : ℕ

@@ -41,7 +41,7 @@ pub record RefusalLeaves : Type 0 where
   pub zeros : (block : List ℕ) (lent : ℕ) → (Accepted block lent → ⊥) → answerOf block lent ≡ refusedAnswer (answerOf block lent .number)
   pub unchanged : (block room : List ℕ) → (Accepted block (length room) → ⊥) → roomAfter block room ≡ room
 
--- Refusal 2 is given exactly when 90 bytes are there and none of the three copies passes.
+-- The reader answers 2 exactly for 90 bytes or more in which none of the three copies passes.
 abbrev pub TwoExactly : Type 0
 TwoExactly = (block : List ℕ) (lent : ℕ) → Below 256 block → (answerOf block lent .number ≡ 2) ↔ NoneAgreed block
 
@@ -98,7 +98,7 @@ pub record GivesWords : Type 0 where
       → length ws ≡ m .words → Below (2 ^ m .size) ws → sent (informationField (fieldBytes (m .number) (m .words)) block) ≡ spell (m .size) ws ++ fill
       → roomAfter block room ≡ ws ++ drop (m .words) room
 
--- ---- data marked not valid is read like any other
+-- ---- data that is marked not valid is read all the same
 
 -- Word 9 of a header, which says whether data is valid, is not read.
 pub record MarkUnread : Type 0 where

@@ -1,4 +1,4 @@
--- Linear functions, over exclusive or. Two that are linear on numbers of n bits are equal where they agree at the n powers of two,
+-- Linear functions, over exclusive or. Two that are linear on numbers of n bits are equal where they are so at each power of two below 2^n,
 -- and that is a test which is computed.
 -- Assumes nothing.
 use mathlib.Core.Path.{_≡_, refl, sym, ap, ap₂, _∙_, subst}

@@ -1,5 +1,5 @@
--- What the quick way of eight bytes a step computes: words of 64 bits that stand for a register, by x^64 = x^48 + x^20 + 1 modulo the generator.
--- Nothing here is part of the meaning of the check word.
+-- What the quick way of eight bytes a step computes: words of 64 bits that stand for a register, since the generator divides
+-- x^64 + x^48 + x^20 + 1. Nothing here is part of the meaning of the check word.
 -- Assumes nothing.
 use mathlib.Core.List.{List, [], _∷_}
 use mathlib.Core.Path.{_≡_}

@@ -1,5 +1,5 @@
-// The check word, eight bytes a step and with no table: a word of 64 bits stands for the register, since x^64 = x^48 + x^20 + 1 modulo
-// the generator.
+// The check word, eight bytes a step and with no table: a word of 64 bits stands for the register, since the generator divides
+// x^64 + x^48 + x^20 + 1.
 ghost use mathlib.Core.Path.{_≡_};
 ghost use mathlib.Core.List.{[], _∷_};
 ghost use Prim.Native.Nat.{_+_, _≤_};

@@ -17,6 +17,6 @@ pub record Passes (g : ℕ) (s : List ℕ) : Type 0 where
 abbrev pub FindsRuns : ℕ → ℕ → Type 0
 FindsRuns g n = (x y : List ℕ) → Below 256 x → Altered n x y → (x ≡ y → ⊥) → Passes g x → Passes g y → ⊥
 
--- Every generator of degree 16 with the term 1 finds runs of 16 bits. Written without its first term such a one is below 65536 and odd.
+-- Every generator of degree 16 that has the term 1 finds runs of 16 bits. Written without its first term such a one is below 65536 and odd.
 abbrev pub FindsSixteen : Type 0
 FindsSixteen = (g : ℕ) → g < 65536 → g % 2 ≡ 1 → FindsRuns g 16

@@ -12,8 +12,8 @@ use Rattle.copies.specs.Copies.{copiesLength, copyAt}
 abbrev pub ThreeEqual : (block c : List ℕ) → Type 0
 ThreeEqual block c = (k : ℕ) → k < 3 → copyAt k block ≡ c
 
--- A copy passes when its check agrees. All passing copies must be equal. The header is that common copy: c is one of the three, it passes,
--- and each one that passes is c.
+-- A copy passes where its check agrees. Copies that pass must all be equal, and the header is what they have in common: c is one of the
+-- three, it passes, and each one that passes is c.
 pub record Agreed (block c : List ℕ) : Type 0 where
   pub long : copiesLength ≤ length block
   pub place : ℕ
@@ -22,7 +22,7 @@ pub record Agreed (block c : List ℕ) : Type 0 where
   pub passing : Passes generator c
   pub only : (k : ℕ) → k < 3 → Passes generator (copyAt k block) → copyAt k block ≡ c
 
--- 90 bytes are there, and none of the three copies passes
+-- 90 bytes or more, in which none of the three copies passes
 pub record NoneAgreed (block : List ℕ) : Type 0 where
   pub long : copiesLength ≤ length block
   pub none : (k : ℕ) → k < 3 → Passes generator (copyAt k block) → ⊥

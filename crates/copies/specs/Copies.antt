@@ -21,7 +21,7 @@ copyLength = 30
 abbrev pub copiesLength : ℕ
 copiesLength = 90
 
--- three copies of thirty bytes, one after the other: copy k, from 0
+-- three copies, thirty bytes each, with nothing between them: copy k, from 0
 abbrev pub copyAt : ℕ → List ℕ → List ℕ
 copyAt k block = take copyLength (drop (k * copyLength) block)
 
@@ -48,22 +48,22 @@ twoDiffer a b c = differ a b || (differ a c || differ b c)
 unfoldable pub common : (a b c : List ℕ) → List ℕ
 common a b c = pick (passes a) a (pick (passes b) b c)
 
--- 1: fewer than 90 bytes
+-- 1: a block shorter than 90 bytes
 abbrev pub tooShort : List ℕ → Bool
 tooShort block = ltb (length block) copiesLength
 
--- 2: none of the three copies passes
+-- 2: of the three copies none passes
 abbrev pub noCopyPasses : List ℕ → Bool
 noCopyPasses block = nonePasses (copyAt 0 block) (copyAt 1 block) (copyAt 2 block)
 
--- 3: two passing copies differ
+-- 3: two copies pass and are not equal
 abbrev pub copiesDiffer : List ℕ → Bool
 copiesDiffer block = twoDiffer (copyAt 0 block) (copyAt 1 block) (copyAt 2 block)
 
 abbrev pub copiesGrounds : List ℕ → List Ground
 copiesGrounds block = (1 when tooShort block) ∷ (2 when noCopyPasses block) ∷ (3 when copiesDiffer block) ∷ []
 
--- the header is the common copy, given back as its first 28 bytes
+-- the header is what the copies that pass have in common; an answer gives its first 28 bytes
 abbrev pub commonIn : List ℕ → List ℕ
 commonIn block = common (copyAt 0 block) (copyAt 1 block) (copyAt 2 block)
 
@@ -73,7 +73,7 @@ headerIn block = take headerLength (commonIn block)
 abbrev pub refusedCommon : ℕ → Common
 refusedCommon n = record { number = n; header = replicate headerLength 0; first = false; second = false; third = false }
 
--- the header, and which copies passed
+-- the header, and which of the copies passed
 abbrev pub foundCommon : (a b c : List ℕ) → Common
 foundCommon a b c = record { number = 0; header = take headerLength (common a b c); first = passes a; second = passes b; third = passes c }
 

@@ -10,7 +10,7 @@ use Rattle.copies.specs.declared.Common.{Common}
 use Rattle.copies.specs.Copies.{headerLength, copyAt, commonOf, refusedCommon}
 use Rattle.copies.specs.Agreed.{Agreed}
 
--- the header is that common copy, given back as its first 28 bytes, with which copies passed
+-- the first 28 bytes of what the copies that pass have in common, and which of the copies passed
 abbrev pub agreedCommon : (block c : List ℕ) → Common
 agreedCommon block c =
     record { number = 0; header = take headerLength c; first = passes (copyAt 0 block); second = passes (copyAt 1 block); third = passes (copyAt 2 block) }

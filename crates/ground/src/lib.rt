@@ -1,13 +1,13 @@
 // The numbers given on refusal, one name for each. What is a ground, and which of several decides, is in specs/Grounds.antt.
 
 pub const ACCEPTED: u8 = 0;
-// Fewer than 90 bytes of block, or a lent header not of 28 bytes.
+// A block shorter than 90 bytes, or a lent header that has not 28 bytes.
 pub const NO_HEADER: u8 = 1;
 
 pub const NO_COPY_PASSES: u8 = 2;
 
 pub const COPIES_DIFFER: u8 = 3;
-// An unknown block id, or a block number above 11.
+// A block id that is none of the known ones, or a block number over 11.
 pub const UNKNOWN_BLOCK: u8 = 4;
 
 pub const UNKNOWN_VERSION: u8 = 5;
@@ -15,7 +15,7 @@ pub const UNKNOWN_VERSION: u8 = 5;
 pub const WRONG_SIZE: u8 = 6;
 
 pub const WRONG_COUNT: u8 = 7;
-// Bytes of a block, or words, not exactly the required number.
+// More or fewer bytes than the block must have, or words than there must be.
 pub const WRONG_LENGTH: u8 = 8;
 
 pub const SMALL_ROOM: u8 = 9;
@@ -25,7 +25,7 @@ pub const CHECK_DISAGREES: u8 = 10;
 pub const FILL_NOT_ZERO: u8 = 11;
 
 pub const BAD_TAG: u8 = 12;
-// A block without records, no such record, or an open watch that expects no block 1 to 10.
+// A block without records, a record that it has not, or an open watch that expects no block from 1 to 10.
 pub const NO_RECORD: u8 = 13;
 
 pub const LARGE_WORD: u8 = 14;

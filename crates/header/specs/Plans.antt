@@ -12,26 +12,26 @@ use Rattle.copies.specs.Copies.{headerLength}
 use Rattle.header.specs.declared.Plan.{Plan}
 use Rattle.header.specs.Says.{blockIn, sizeIn, countIn, extraWords, wordsIn, versionIn, rowIn, bytesIn}
 
--- 4: unknown block id, or block number above 11
+-- 4: a block id that is none of the known ones: it stands for a number over 11
 abbrev pub unknownBlock : List ℕ → Bool
 unknownBlock header = ltb lastBlock (blockIn header)
 
--- 5: version above 3
+-- 5: a version over 3
 abbrev pub unknownVersion : List ℕ → Bool
 unknownVersion header = ltb lastVersion (versionIn header)
 
--- 6: word size not in the block's row
+-- 6: a word size that the block's row has not
 abbrev pub wrongSize : List ℕ → Bool
 wrongSize header = not (eqb (rowIn header .size) (sizeIn header))
 
--- 7: count not in the block's row, one too small for the extra words among them
+-- 7: a count that the block's row has not, or one below two
 abbrev pub wrongCount : List ℕ → Bool
 wrongCount header = ltb (countIn header) extraWords || not (permits (rowIn header) (wordsIn header))
 
 abbrev pub headerGrounds : List ℕ → List Ground
 headerGrounds header = (4 when unknownBlock header) ∷ (5 when unknownVersion header) ∷ (6 when wrongSize header) ∷ (7 when wrongCount header) ∷ []
 
--- 1: a lent header not of 28 bytes
+-- 1: a lent header that has not 28 bytes
 abbrev pub notHeader : List ℕ → Bool
 notHeader header = not (eqb (length header) headerLength)
 

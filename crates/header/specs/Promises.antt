@@ -26,6 +26,6 @@ pub record GrantsAsked : Type 0 where
 abbrev pub WordsInPlace : Type 0
 WordsInPlace = planOf (3 ∷ 10 ∷ 0 ∷ 22 ∷ 0 ∷ 0 ∷ 0 ∷ 2 ∷ replicate 20 0) ≡ askedPlan 3 2 10 20
 
--- data marked not valid is read like any other: what word 9 holds changes no plan
+-- data that is marked not valid is read all the same: what word 9 holds changes no plan
 abbrev pub MarkUnread : Type 0
 MarkUnread = (h : List ℕ) (mark : ℕ) → planOf (set h (9 - 1) mark) ≡ planOf h

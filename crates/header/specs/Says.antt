@@ -33,7 +33,7 @@ countIn header = word 3 header * 256 + word 4 header
 abbrev pub extraWords : ℕ
 extraWords = 2
 
--- C, the number of data words in the field before fill
+-- C counts the data words of the field, without fill
 abbrev pub wordsIn : List ℕ → ℕ
 wordsIn header = countIn header - extraWords
 

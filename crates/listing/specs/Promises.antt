@@ -25,18 +25,18 @@ pub record SpellsNumbers : Type 0 where
   pub says : (n : ℕ) → spelled 0 (decimal n) ≡ n
   pub leading : (n : ℕ) → 0 < n → 0x31 ≤ getD (decimal n) 0 0
 
--- The scope's example: an acceptable block 3, version 2, C = 20, then a tag-1 field of 89 bytes.
+-- The scope's example, two fields with tag 1: the first an acceptable block 3 of version 2 with C = 20, the second of 89 bytes.
 abbrev pub PrintsExample : Type 0
 PrintsExample =
     (block short : List ℕ) (room : ℕ) → Below 256 block → (m : Meets block) → m .number ≡ 3 → m .version ≡ 2 → m .words ≡ 20 → 20 ≤ room → length short ≡ 89
     → listing (written (record { tag = 1; body = block }) ++ written (record { tag = 1; body = short })) room
     ≡ bytesOf "seq block version words answer\n1 3 2 20 0\n2 - - - 1\nend 2\n"
 
--- An empty recording has the first line and `end 0`.
+-- The listing of an empty recording is the first line, then `end 0`.
 abbrev pub PrintsEmpty : Type 0
 PrintsEmpty = (room : ℕ) → listing [] room ≡ bytesOf "seq block version words answer\nend 0\n"
 
--- A recording that stops inside a field ends with `cut k` in place of `end k`, k being the complete fields before it.
+-- Where a recording stops in the middle of a field, the last line is `cut k` and not `end k`, with k complete fields in front.
 abbrev pub PrintsCut : Type 0
 PrintsCut =
     (fields : List Field) (f : Field) (k room : ℕ) → 0 < k → k < length (written f)

@@ -14,7 +14,7 @@ use Rattle.parity.specs.declared.Section.{Section}
 use Rattle.parity.specs.Sections.{xorOf, firstWord, lastWord, parityWord, word, sectionsIn, holdsIn, sectionsOf}
 use Rattle.parity.specs.Words.{groundOf}
 
--- Table to prove, 13: XOR of 01, 02, 03 is 00.
+-- Row 13 of the table: 01, 02, 03 joined by exclusive or is 00.
 abbrev pub Row13 : Type 0
 Row13 = xorOf (1 ∷ 2 ∷ 3 ∷ []) ≡ 0
 
@@ -30,7 +30,7 @@ ReadsItsOwn =
 abbrev pub SameOutside : ℕ → ℕ → List ℕ → List ℕ → Type 0
 SameOutside a b u v = (length u ≡ length v) × ((k : ℕ) → (k < a) ⊎ (b < k) → word u k ≡ word v k)
 
--- Words 7903-7905 lie outside the fourth section: whatever stands there, as long as it makes or mends no refusal, the answer is the same.
+-- The fourth Imager section stops before words 7903 to 7905: if what stands there makes or mends no refusal, the answer is the same.
 abbrev pub SparesUnread : Type 0
 SparesUnread =
     (u v : List ℕ) → SameOutside 7903 7905 u v → groundOf u ≡ groundOf v

@@ -13,7 +13,7 @@ use Rattle.parity.specs.declared.Section.{Section}
 use Rattle.parity.specs.declared.Sections.{Sections}
 use Rattle.parity.specs.Words.{groundOf}
 
--- A section's parity is the XOR of its words.
+-- The parity of a section is its words joined by exclusive or.
 unfoldable pub xorOf : List ℕ → ℕ
 xorOf = foldl bitXor 0
 
@@ -31,8 +31,7 @@ lastWord s = s .1
 abbrev pub parityWord : Section → ℕ
 parityWord s = s .2
 
--- Imager spacelook, block 1 (Table 3-22): 1-221 in 222; 223-701 in 702; 703-1181 in 1182; 1183-7902 in 7906.
--- Sounder spacelook, block 1 (Table 3-26 of the 2011 revision): 1-221 in 222; 223-2926 in 2927.
+-- Block 1 of each spacelook: the Imager's by Table 3-22 of source 001, the Sounder's by Table 3-26 of source 000.
 abbrev pub sectionsIn : Layout → List Section
 sectionsIn ImagerSpacelook =
     1 to 221 kept-in 222 ∷ 223 to 701 kept-in 702 ∷ 703 to 1181 kept-in 1182 ∷ 1183 to 7902 kept-in 7906 ∷ []

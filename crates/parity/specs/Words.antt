@@ -14,6 +14,6 @@ blockWords = 8040
 unfoldable pub anyLarge : List ℕ → Bool
 anyLarge = foldl (λ found w. found || ltb 255 w) false
 
--- On 8,040 eight-bit words; any other length is refusal 8, then a word above 255 is 14.
+-- Over 8,040 words of eight bits. Another number of words is refusal 8; after that, a word over 255 is 14.
 unfoldable pub groundOf : List ℕ → ℕ
 groundOf words = firstOf ((8 when not (eqb (length words) blockWords)) ∷ (14 when anyLarge words) ∷ [])

@@ -1,4 +1,4 @@
--- Which channel and detector a record of a block holds, and what is answered when a placement is asked for.
+-- The channel and the detector that version, block and record fix, and what is answered when a placement is asked for.
 -- Assumes nothing.
 use Prim.Native.Nat.{ℕ, _-_}
 use mathlib.Core.Bool.{Bool, _||_}
@@ -16,19 +16,19 @@ infix 70 _det_
 abbrev pub _det_ : ℕ → ℕ → Held
 c det d = record { 0 = c; 1 = d }
 
--- Versions 0, 1: block 1 is 4/1, 4/2, 5/1, 5/2; block 2 is 2/1, 2/2, 3/1.
+-- Versions 0 and 1: 4/1, 4/2, 5/1, 5/2 in block 1, and 2/1, 2/2, 3/1 in block 2.
 abbrev pub early : ℕ → List Held
 early block =
     pick (eqb block 1) (4 det 1 ∷ 4 det 2 ∷ 5 det 1 ∷ 5 det 2 ∷ [])
     (pick (eqb block 2) (2 det 1 ∷ 2 det 2 ∷ 3 det 1 ∷ []) [])
 
--- Versions 2, 3: block 1 is 2/1, 2/2, 3/1, 3/2; block 2 is 4/1, 4/2, 6/1.
+-- Versions 2 and 3: 2/1, 2/2, 3/1, 3/2 in block 1, and 4/1, 4/2, 6/1 in block 2.
 abbrev pub late : ℕ → List Held
 late block =
     pick (eqb block 1) (2 det 1 ∷ 2 det 2 ∷ 3 det 1 ∷ 3 det 2 ∷ [])
     (pick (eqb block 2) (4 det 1 ∷ 4 det 2 ∷ 6 det 1 ∷ []) [])
 
--- Blocks 3 to 10, every version: channel 1, detectors 5, 6, 7, 8, 1, 2, 3, 4.
+-- All versions: 1/5, 1/6, 1/7, 1/8, 1/1, 1/2, 1/3, 1/4 in blocks 3 to 10, one a block.
 abbrev pub visibleHeld : List Held
 visibleHeld = map (λ d. 1 det d) (5 ∷ 6 ∷ 7 ∷ 8 ∷ 1 ∷ 2 ∷ 3 ∷ 4 ∷ [])
 
@@ -42,11 +42,11 @@ heldIn block version = pick (ltb block 3) (pick (ltb version 2) (early block) (l
 unfoldable pub recordsHeld : ℕ → ℕ → ℕ
 recordsHeld block version = length (heldIn block version)
 
--- Block without records, or no such record. Records count from 1.
+-- A block without records, or a record that it has not. Records count from 1.
 abbrev pub noRecord : ℕ → ℕ → ℕ → Bool
 noRecord block version k = eqb k 0 || ltb (recordsHeld block version) k
 
--- A placement asked for by block, version and record tests 4, 5, 13.
+-- Placement, for a block, a version and a record: 4, 5, 13.
 abbrev pub groundOf : ℕ → ℕ → ℕ → ℕ
 groundOf block version k =
     firstOf ((4 when ltb lastBlock block) ∷ (5 when ltb lastVersion version) ∷ (13 when noRecord block version k) ∷ [])

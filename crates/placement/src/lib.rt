@@ -1,4 +1,4 @@
-// Which channel and detector a record of blocks 1 to 10 holds: the fixed placement by version of 504-02 section 3.2.1, two
+// The channel and the detector of a record of blocks 1 to 10: the placement by version of 504-02 section 3.2.1, two
 // tables of constants and a lookup in each. What is right is in specs/Placement.antt, how an entry is read in specs/Table.antt.
 
 ghost use mathlib.Core.Path.{_≡_};
@@ -122,7 +122,7 @@ fn visible(block: u8, record: u8) -> Placed
 }
 
 // The channel and detector of a record, counted from 1. Refusals: 4 for a block above 11, 5 for a version above 3, 13 for a block
-// without records or no such record.
+// without records or a record that it has not.
 //
 // This is the placement of an upright spacecraft with no co-registration in use, and neither the block nor the version tells
 // whether that is so. Yaw-flipped (504-02 section 3.2.3; block 0, word 5, first bit) detectors 1 and 2 change places in every

@@ -1,4 +1,4 @@
--- A recording is tagged fields, one after the other: a one-byte tag, a two-byte length with its high byte first, and a body. From its bytes:
+-- A recording is one field after another: a byte of tag, two bytes of length, high byte first, and a body of that length. From its bytes:
 -- the whole fields in order, and whether it stops inside one behind them.
 -- Assumes nothing.
 use Prim.Native.Nat.{ℕ, zero, suc, _/_, _%_}

@@ -1,5 +1,5 @@
--- Record access refuses on its grounds in their order and finds a record where it lies; the records joined in order are exactly the C words,
--- since each one takes up where the one before it ends.
+-- Record access refuses on its grounds in their order and finds a record where it lies; the records one after another are the C words, all
+-- of them and no more, since each one takes up where the one before it ends.
 -- Assumes nothing.
 use mathlib.Core.Path.{_≡_, refl, sym, ap, ap₂, _∙_, subst}
 use mathlib.Core.Bool.{Bool, _||_}

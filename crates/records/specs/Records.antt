@@ -19,18 +19,18 @@ recordsOf header = rowIn header .records
 unfoldable pub recordLength : List ℕ → ℕ
 recordLength header = wordsIn header / recordsOf header
 
--- record k starts at word (k - 1) times the record's length, counted from 0
+-- with words counted from 0, record k starts at k - 1 times the length of a record
 abbrev pub recordStart : List ℕ → ℕ → ℕ
 recordStart header k = (k - 1) * recordLength header
 
--- 13: block without records, or no such record
+-- 13: a block without records, or a record that it has not
 abbrev pub noRecord : List ℕ → ℕ → Bool
 noRecord header k = eqb k 0 || ltb (recordsOf header) k
 
 abbrev pub recordGrounds : (header : List ℕ) (k words : ℕ) → List Ground
 recordGrounds header k words = (13 when noRecord header k) ∷ (9 when ltb words (wordsIn header)) ∷ []
 
--- record access applies 1 and 4 to 7 to the header given, then 13, then 9 if fewer than C words are lent
+-- record access, for the header it is given: 1, 4, 5, 6, 7, then 13, then 9 for fewer than C words lent
 abbrev pub groundsOf : (header : List ℕ) (k words : ℕ) → List Ground
 groundsOf header k words = planGrounds header ++ recordGrounds header k words
 

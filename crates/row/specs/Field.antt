@@ -11,13 +11,14 @@ use Rattle.row.specs.Rows.{fixedBits}
 abbrev pub upTo16 : ℕ → ℕ
 upTo16 bits = (bits + 15) / 16 * 16
 
--- In blocks 1 to 10 the larger of 21,440 and 10 x C rounded up to a multiple of 16; in blocks 0 and 11 it is 64,320.
+-- The field of blocks 1 to 10 has 10 x C bits, rounded up to a multiple of 16, but never fewer than 21,440. That of blocks 0 and 11 has
+-- 64,320.
 unfoldable pub fieldBits : (block count : ℕ) → ℕ
 fieldBits block count = pick (eqb block 0 || eqb block 11) fixedBits (max 21440 (upTo16 (count * imageSize)))
 
 unfoldable pub fieldBytes : (block count : ℕ) → ℕ
 fieldBytes block count = fieldBits block count / 8
 
--- bits after the last word are fill
+-- what follows the last word is fill
 abbrev pub fillBits : (block size count : ℕ) → ℕ
 fillBits block size count = fieldBits block count - count * size

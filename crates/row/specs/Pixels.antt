@@ -4,7 +4,7 @@ use Prim.Native.Nat.{ℕ, _*_}
 use mathlib.Core.Bool.{Bool, _&&_}
 use lib.Dec.{leb}
 
--- n, the infrared pixels of a scan, is 1 to 5,236, a scan of 19.2 degrees
+-- n, which counts infrared pixels, goes from 1 to 5,236, which is a scan of 19.2 degrees
 abbrev pub narrowest : ℕ
 narrowest = 1
 
@@ -14,7 +14,7 @@ widest = 5236
 abbrev pub isScan : ℕ → Bool
 isScan n = leb narrowest n && leb n widest
 
--- one infrared pixel spans four visible ones
+-- an infrared pixel spans four visible ones
 abbrev pub visibleOf : ℕ → ℕ
 visibleOf n = n * 4
 

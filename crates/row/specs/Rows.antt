@@ -15,7 +15,8 @@ lastBlock = 11
 abbrev pub lastVersion : ℕ
 lastVersion = 3
 
--- Block 1 has 4 records, block 2 has 3 (Table 3-1), blocks 3 to 10 have 1. The version does not enter so far.
+-- Block 1 consists of 4 records, block 2 of 3 (Table 3-1), each of blocks 3 to 10 of a single one; blocks 0 and 11 have none. The version
+-- does not enter so far.
 unfoldable pub recordsIn : (block version : ℕ) → ℕ
 recordsIn block version = pick (eqb block 1) 4 (pick (eqb block 2) 3 (pick (leb 3 block && leb block 10) 1 0))
 

@@ -13,7 +13,7 @@ use Rattle.scope.specs.Notions.{word}
 use Rattle.scope.specs.Sizes.{FieldBits}
 
 -- ---- the check
--- Generator x^16+x^12+x^5+1, start all ones, result complemented: the ASCII digits 123456789 have the check D64E.
+-- The generator is x^16+x^12+x^5+1, the register starts with all ones, the remainder is complemented: the ASCII digits 123456789 have D64E.
 abbrev pub Vector : Type 0
 Vector = checkWord (0x31 ∷ 0x32 ∷ 0x33 ∷ 0x34 ∷ 0x35 ∷ 0x36 ∷ 0x37 ∷ 0x38 ∷ 0x39 ∷ []) ≡ 0xD64E
 
@@ -23,18 +23,18 @@ pub record Agrees (s : List ℕ) : Type 0 where
   pub followed : s ≡ message ++ (checkWord message / 256 ∷ checkWord message % 256 ∷ [])
 
 -- ---- the three copies
--- Three header copies of thirty bytes, one after the other: bytes 0-29, 30-59, 60-89.
+-- Three copies of the header, thirty bytes each, with nothing between them: bytes 0-29, 30-59, 60-89.
 pub data Copy (block : List ℕ) : List ℕ → Type 0 where
   first : Copy block (take 30 block)
   second : Copy block (take 30 (drop 30 block))
   third : Copy block (take 30 (drop 60 block))
 
--- A copy passes when its check agrees.
+-- A copy passes where its check agrees.
 pub record Passing (block c : List ℕ) : Type 0 where
   pub copy : Copy block c
   pub agrees : Agrees c
 
--- All passing copies must be equal. The header is that common copy, given back as its first 28 bytes.
+-- Copies that pass must all be equal, and the header is what they have in common. An answer gives its first 28 bytes.
 pub record Header (block h : List ℕ) : Type 0 where
   pub long : 90 ≤ length block
   pub common : List ℕ
@@ -43,8 +43,8 @@ pub record Header (block h : List ℕ) : Type 0 where
   pub given : h ≡ take 28 common
 
 -- ---- what a header says
--- Word 1 block id, by the codes that `IsBlock` of the crate `header` prints, word 2 word size, words 3-4 word count, high byte first, word 8
--- version (0 to 3). The count is of the data words in the field before fill, C, and two more. So many bits is the field long.
+-- Word 1: the block id, by the codes that `IsBlock` of the crate `header` prints; 2: the size of the field's words; 3-4: C and two more,
+-- high byte first; 8: the version, 0 to 3. C counts the data words of the field, without fill. So many bits is the field long.
 pub record Asked (h : List ℕ) : Type 0 where
   pub block : ℕ
   pub version : ℕ
@@ -60,11 +60,11 @@ pub record Asked (h : List ℕ) : Type 0 where
   pub long : FieldBits block words bits
 
 pub record Unread : Type 0 where
-  -- Word 9 data valid: data marked not valid is read like any other. Set to any mark, it changes neither answer nor room,
+  -- Word 9: data that is marked not valid is read all the same. Set to any mark, it changes neither answer nor room,
   pub answer : (h block : List ℕ) (lent mark : ℕ) → judgedBy (set h 8 mark) block lent ≡ judgedBy h block lent
   pub left : (h block room : List ℕ) (mark : ℕ) → roomBy (set h 8 mark) block room ≡ roomBy h block room
   -- and blocks sent alike but for it are read alike.
   pub marked : ReadsMarkedAlike
-  -- Words 17-24 SPS time.
+  -- Words 17-24 are the SPS time.
   pub eight : (h : List ℕ) → length h ≡ 28 → length (timeIn h) ≡ 8
   pub time : (h : List ℕ) (k : ℕ) → 1 ≤ k → k ≤ 8 → word k (timeIn h) ≡ word (16 + k) h

@@ -16,15 +16,15 @@ use Rattle.scope.specs.Refusals.{readerReasons}
 abbrev pub Accepted : List ℕ → ℕ → Type 0
 Accepted block lent = answerOf block lent .number ≡ 0
 
--- ---- 1. Any bytes, of any length, get an answer: one number, on its ground. The other functions' are beside it in `Numbers`, what a
--- refusal holds and leaves in `Refusals`.
+-- ---- 1. Whatever bytes come, of whatever length, there is one answer: a number, on its ground. The other functions' are beside it in
+-- `Numbers`, what a refusal holds and leaves in `Refusals`.
 abbrev pub Answered : Type 0
 Answered = (block : List ℕ) (lent : ℕ) → Below 256 block
     → (n : ℕ) × FirstOf (readerReasons block lent) n × ((m : ℕ) → FirstOf (readerReasons block lent) m → m ≡ n) × (answerOf block lent .number ≡ n)
 
--- ---- 2. Given room for its words, a block is accepted exactly when it meets section 3, and its words are exactly those sent.
--- 90 bytes of header, the information field, and 2 bytes of check word. The block check covers the information field. Bits after the last
--- word are fill and must be zero.
+-- ---- 2. Given room, a block is accepted exactly where it meets section 3, and the words given are exactly the ones sent.
+-- It has 90 bytes of header, then the information field, then two bytes of check word, over the whole field. What follows the last word is
+-- fill, and every bit of it must be zero.
 pub record Meets (block : List ℕ) : Type 0 where
   pub header : List ℕ
   pub found : Header block header
@@ -36,7 +36,7 @@ pub record Meets (block : List ℕ) : Type 0 where
 pub record Reads : Type 0 where
   pub accepts : (block : List ℕ) (lent : ℕ) → Below 256 block → (m : Meets block) → m .asked .words ≤ lent → Accepted block lent
   pub only : (block : List ℕ) (lent : ℕ) → Below 256 block → Accepted block lent → (m : Meets block) × (m .asked .words ≤ lent)
-  -- The reader returns the count, the header and which copies passed; it writes the C words at the front of the room and nothing behind them.
+  -- It gives how many words there are, the header and which of the copies passed; behind the C words nothing in the room is changed.
   pub count : (block : List ℕ) (lent : ℕ) → Below 256 block → Accepted block lent → (m : Meets block) → answerOf block lent .words ≡ m .asked .words
   pub header : (block : List ℕ) (lent : ℕ) → Below 256 block → Accepted block lent → (m : Meets block) → answerOf block lent .header ≡ m .header
   pub first : (block : List ℕ) (lent : ℕ) → Below 256 block → Accepted block lent → (answerOf block lent .first ≡ true) ↔ Agrees (take 30 block)
@@ -53,7 +53,7 @@ pub record Equal (block : List ℕ) : Type 0 where
   pub second : take 30 (drop 30 block) ≡ take 30 block
   pub third : take 30 (drop 60 block) ≡ take 30 block
 
--- a block is written at the front of the room and nothing behind it, and its count of bytes returned
+-- a block is written at the front of the room, nothing is changed behind it, and it is given how many bytes there are
 pub record Writes (h ws block dest : List ℕ) : Type 0 where
   pub count : writtenOf h ws (length dest) ≡ record { number = 0; bytes = length block }
   pub left : roomWritten h ws dest ≡ block ++ drop (length block) dest
@@ -63,8 +63,8 @@ pub record Gives (block h ws room : List ℕ) : Type 0 where
   pub answer : answerOf block (length room) ≡ record { number = 0; header = h; first = true; second = true; third = true; words = length ws }
   pub left : roomAfter block room ≡ ws ++ drop (length ws) room
 
--- The writer builds blocks by the same rules. Reading a written block returns what went in; rewriting an accepted block whose header copies
--- are equal returns its bytes.
+-- The writer makes blocks by the same rules. What was written reads back as what went in; an accepted block with three equal header copies,
+-- written again, gives its own bytes.
 pub record Rewrites : Type 0 where
   pub written : (h ws dest : List ℕ) → Below 256 h → writtenOf h ws (length dest) .number ≡ 0
       → (block : List ℕ) × Writes h ws block dest × Meets block × Equal block × ((room : List ℕ) → length ws ≤ length room → Gives block h ws room)
@@ -84,7 +84,7 @@ pub record Received (Change : List ℕ → List ℕ → Type 0) (one other : Lis
   pub third : (take 30 (drop 60 other) ≡ take 30 one) ⊎ Change (take 30 one) (take 30 (drop 60 other))
   pub whole : (take 30 other ≡ take 30 one) ⊎ ((take 30 (drop 30 other) ≡ take 30 one) ⊎ (take 30 (drop 60 other) ≡ take 30 one))
 
--- header and words come out unchanged
+-- header and words come out the same
 pub record Unchanged (one other room : List ℕ) : Type 0 where
   pub accepted : Accepted other (length room)
   pub header : answerOf other (length room) .header ≡ answerOf one (length room) .header
@@ -93,7 +93,7 @@ pub record Unchanged (one other room : List ℕ) : Type 0 where
 
 pub record Finds (Change : List ℕ → List ℕ → Type 0) : Type 0 where
   pub copies : (one other room : List ℕ) → Received Change one other → Accepted one (length room) → drop 90 other ≡ drop 90 one → Unchanged one other room
-  -- Now also alter the field with its check word, at least one bit: refused with 10.
+  -- Alter, besides, the field with its check word, by a bit at least: refusal 10.
   pub field : (one other room : List ℕ) → Received Change one other → Accepted one (length room)
       → Change (drop 90 one) (drop 90 other) → (drop 90 one ≡ drop 90 other → ⊥) → answerOf other (length room) .number ≡ 10
 

@@ -12,12 +12,12 @@ use Rattle.parity.specs.declared.Layout.{Layout}
 use Rattle.parity.specs.declared.Layout.the-variants.{ImagerSpacelook, SounderSpacelook}
 use Rattle.scope.specs.Notions.{Reason, _if_, FirstOf}
 
--- A section's parity is the XOR of its words.
+-- The parity of a section is its words joined by exclusive or.
 pub record Xor : Type 0 where
   pub none : xorOf [] ≡ 0
   pub one-more : (w : ℕ) (ws : List ℕ) → xorOf (w ∷ ws) ≡ bitXor w (xorOf ws)
 
--- 8,040 eight-bit words, with a verdict for each section; any other length is refusal 8, then a word above 255 is 14.
+-- 8,040 words of eight bits; each section gets its own verdict. Another number of words is refusal 8; after that, a word over 255 is 14.
 abbrev pub reasons : List ℕ → List Reason
 reasons ws = 8 if (length ws ≡ 8040 → ⊥) ∷ 14 if ((i : ℕ) × (255 < getD ws i 0)) ∷ []
 

@@ -17,10 +17,10 @@ abbrev pub IsLine : (before tag : ℕ) (body : List ℕ) → ℕ → Line → Ty
 IsLine before tag body lent line = before < 18446744073709551615 → lineOf before tag body lent ≡ line
 
 pub record Listing : Type 0 where
-  -- A recording is tagged fields: one-byte tag, two-byte length (high first), body. Whole ones in order, then whether it is cut.
+  -- One field after another: a byte of tag, two bytes of length, high byte first, and a body. Whole ones in order, then whether it is cut.
   pub field : (f : Field) → written f ≡ f .tag ∷ length (f .body) / 256 ∷ length (f .body) % 256 ∷ f .body
   pub fields : (fs : List Field) → GivesFields fs
-  -- Tag 1 holds a block: its number, version and C, and 0; or the number of its refusal, and dashes. Tag other than 1: 15.
+  -- With tag 1 the body is a block: its number, version and C, and 0; or the number of its refusal, and dashes. A tag that is not 1: 15.
   pub listed : (before lent : ℕ) (block : List ℕ) → Below 256 block → Accepted block lent → (m : Meets block)
       → IsLine before 1 block lent (record { seq = before + 1; answer = 0; block = m .asked .block; version = m .asked .version; words = m .asked .words })
   pub refused : (before lent : ℕ) (block : List ℕ) → (Accepted block lent → ⊥)

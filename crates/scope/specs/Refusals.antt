@@ -19,7 +19,7 @@ use Rattle.scope.specs.Blocks.{Agrees, Passing, Header, Asked}
 use Rattle.scope.specs.Records.{RecordsIn}
 
 -- A reason that a header gives is said of one that is lent, or of the one that a block's copies have in common.
--- 4: unknown block id. 5: version above 3. 6: word size not in the block's row: no count has it there. 7: count not in the block's row.
+-- 4: an id of no block. 5: a version over 3. 6: a word size that the block's row has not, with any count. 7: a count that it has not.
 abbrev pub headerReasons : ((List ℕ → Type 0) → Type 0) → List Reason
 headerReasons says =
     4 if says (λ h. (b : ℕ) → IsBlock (word 1 h) b → ⊥)
@@ -36,7 +36,7 @@ planReasons h = 1 if (length h ≡ 28 → ⊥) ∷ headerReasons (λ P. P h)
 abbrev pub Said : List ℕ → (List ℕ → Type 0) → Type 0
 Said block P = (h : List ℕ) × Header block h × P h
 
--- 1: fewer than 90 bytes. 2: none of the three copies passes. 3: two passing copies differ.
+-- 1: a block shorter than 90 bytes. 2: of the three copies none passes. 3: two copies pass and are not equal.
 abbrev pub copiesReasons : List ℕ → List Reason
 copiesReasons block =
     1 if (length block < 90)
@@ -44,8 +44,8 @@ copiesReasons block =
     ∷ 3 if ((c : List ℕ) × (d : List ℕ) × Passing block c × Passing block d × (c ≡ d → ⊥))
     ∷ []
 
--- 8: block bytes not exactly the required number. 17: check word not on a 16-bit boundary of the block. 9: lent room smaller than needed.
--- 10: block check disagrees. 11: a fill bit is 1.
+-- 8: more or fewer bytes than the block must have. 17: the check word begins off a 16-bit boundary of the block.
+-- 9: less room than is needed. 10: the block's check does not agree. 11: a bit of the fill is 1.
 abbrev pub fieldReasons : ((List ℕ → Type 0) → Type 0) → List ℕ → ℕ → List Reason
 fieldReasons says block lent =
     8 if says (λ h. (a : Asked h) × (length block ≡ 90 + a .bits / 8 + 2 → ⊥))
@@ -56,11 +56,11 @@ fieldReasons says block lent =
     ∷ []
 
 -- ---- the order of the tests
--- The reader tests 1 to 8 in order, then 17, 9, 10, 11.
+-- The reader: 1, 2, 3, 4, 5, 6, 7, 8, then 17, 9, 10, 11.
 abbrev pub readerReasons : List ℕ → ℕ → List Reason
 readerReasons block lent = copiesReasons block ++ (headerReasons (Said block) ++ fieldReasons (Said block) block lent)
 
--- The writer takes 28 header bytes and words and tests 1, 4 to 8, 9, 14.
+-- The writer, which is lent 28 header bytes and words: 1, 4, 5, 6, 7, 8, 9, 14.
 abbrev pub wordReasons : (h ws : List ℕ) → ℕ → List Reason
 wordReasons h ws lent =
     8 if ((a : Asked h) × (length ws ≡ a .words → ⊥))
@@ -68,14 +68,14 @@ wordReasons h ws lent =
     ∷ 14 if ((a : Asked h) × (i : ℕ) × (i < length ws) × (2 ^ a .size ≤ getD ws i 0))
     ∷ []
 
--- Record access applies 1 and 4 to 7 to the header given, then 13, then 9 if fewer than C words are lent.
+-- Record access, for the header it is given: 1, 4, 5, 6, 7, then 13, then 9.
 abbrev pub recordReasons : List ℕ → (k lent : ℕ) → List Reason
 recordReasons h k lent =
     13 if ((a : Asked h) × (r : ℕ) × RecordsIn (a .block) (a .version) r × ((k ≡ 0) ⊎ (r < k)))
     ∷ 9 if ((a : Asked h) × (lent < a .words))
     ∷ []
 
--- A placement asked for by block, version and record tests 4, 5, 13.
+-- Placement, for a block, a version and a record: 4, 5, 13.
 abbrev pub placeReasons : (b v k : ℕ) → List Reason
 placeReasons b v k = 4 if (11 < b) ∷ 5 if (3 < v) ∷ 13 if ((r : ℕ) × RecordsIn b v r × ((k ≡ 0) ⊎ (r < k))) ∷ []
 
@@ -89,7 +89,7 @@ pub record Numbers : Type 0 where
   pub plan : (h : List ℕ) → FirstOf (planReasons h) (planOf h .number)
   pub by : (h block : List ℕ) (lent : ℕ) → Below 256 block → FirstOf (planReasons h ++ fieldReasons (λ P. P h) block lent) (judgedBy h block lent .number)
 
--- ---- what a refusal holds: its number, and zeros; and it leaves every lent byte and word unchanged
+-- ---- a refusal gives its number, and zeros beside it; all lent bytes and words stay as they were
 pub record Refusals : Type 0 where
   pub reader : (block : List ℕ) (lent : ℕ) → (answerOf block lent .number ≡ 0 → ⊥)
       → answerOf block lent ≡ record { number = answerOf block lent .number; header = replicate 28 0; first = false; second = false; third = false; words = 0 }

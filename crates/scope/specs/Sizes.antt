@@ -11,7 +11,7 @@ pub record RoundedUp (m u : ℕ) : Type 0 where
   pub enough : m ≤ u
   pub least : u < m + 16
 
--- In blocks 1-10 the field's length in bits is the larger of 21,440 and 10 x C rounded up to a multiple of 16. In blocks 0 and 11 it is
+-- The field of blocks 1 to 10 has 10 x C bits, rounded up to a multiple of 16, but never fewer than 21,440. That of blocks 0 and 11 has
 -- 64,320.
 pub data FieldBits : (block C bits : ℕ) → Type 0 where
   zeroth : {C : ℕ} → FieldBits 0 C 64320
@@ -21,5 +21,5 @@ pub data FieldBits : (block C bits : ℕ) → Type 0 where
 pub record Sized : Type 0 where
   pub bits : (b C bits : ℕ) → FieldBits b C bits → fieldBits b C ≡ bits
   pub bytes : (b C bits : ℕ) → FieldBits b C bits → fieldBytes b C ≡ bits / 8
-  -- One infrared pixel spans four visible ones.
+  -- An infrared pixel spans four visible ones.
   pub spans : (n : ℕ) → visibleOf n ≡ 4 * n

@@ -12,7 +12,7 @@ use Rattle.time.specs.Times.{between, elapsedOf}
 use Rattle.tag.specs.declared.Tag.{Tag}
 use Rattle.scope.specs.Notions.{_if_, FirstOf, word}
 
--- Eight bytes hold sixteen BCD digits; the first bit of byte 3 is the flywheel mark and no part of them.
+-- A tag is eight bytes, sixteen BCD digits. The first bit of byte 3 is not part of the day: it is the flywheel mark.
 abbrev pub digits : List ℕ → List ℕ
 digits s =
     word 1 s / 16 ∷ word 1 s % 16 ∷ word 2 s / 16 ∷ word 2 s % 16
@@ -23,7 +23,7 @@ digits s =
 abbrev pub digit : ℕ → List ℕ → ℕ
 digit i s = getD (digits s) i 0
 
--- Year (4), day of year (3), hour (2), minute (2), second (2), millisecond (3). No digit is above 9.
+-- Four digits for the year, three for the day of the year, two each for hour, minute and second, three for the millisecond; none is over 9.
 pub record Says (s : List ℕ) (t : Tag) : Type 0 where
   pub eight : length s ≡ 8
   pub decimal : (i : ℕ) → i < 16 → digit i s ≤ 9
@@ -35,12 +35,12 @@ pub record Says (s : List ℕ) (t : Tag) : Type 0 where
   pub ms : t .ms ≡ digit 13 s * 100 + digit 14 s * 10 + digit 15 s
   pub flywheel : (t .flywheel ≡ true) ↔ (128 ≤ word 3 s)
 
--- Gregorian throughout
+-- the Gregorian rule
 pub record LeapYear (y : ℕ) : Type 0 where
   pub fourth : y % 4 ≡ 0
   pub century : (y % 100 ≡ 0 → ⊥) ⊎ (y % 400 ≡ 0)
 
--- Years are 0 to 9999. A day outside 1 to 365 (366 in a leap year), hour above 23, minute or second above 59 is refused; millisecond to 999.
+-- No year is over 9999, no day 0, nor over 365 (over 366 in a leap year), no hour over 23, minute or second over 59, millisecond over 999.
 pub record Bounds (t : Tag) : Type 0 where
   pub year : t .year ≤ 9999
   pub from-day : 1 ≤ t .day
@@ -62,7 +62,7 @@ pub record Reading : Type 0 where
   pub taken : (s : List ℕ) → readTag s .number ≡ 0 → Says s (readTag s .tag)
   pub refused : (s : List ℕ) → (readTag s .number ≡ 0 → ⊥) → readTag s ≡ record { number = 12; tag = noTag }
 
--- The tag writer takes the numbers and the mark, gives eight bytes, and applies the same bounds.
+-- The writer of tags is given the numbers and the mark and makes eight bytes. The bounds are those of reading.
 pub record Writing : Type 0 where
   pub number : (t : Tag) → FirstOf (12 if (Bounds t → ⊥) ∷ []) (writeTag t .number)
   pub taken : (t : Tag) → writeTag t .number ≡ 0 → Says (writeTag t .bytes) t × Below 256 (writeTag t .bytes)
@@ -76,7 +76,7 @@ pub record Writing : Type 0 where
 abbrev pub ofDay : Tag → ℕ
 ofDay t = t .hour * 3600000 + t .minute * 60000 + t .second * 1000 + t .ms
 
--- Elapsed time from one tag to a second is a signed count of milliseconds: said day by day. The flywheel mark doesn't enter it.
+-- The elapsed time from a first tag to a second is milliseconds with a sign: said day by day. The flywheel mark has no part in it.
 pub record Elapsing : Type 0 where
   pub number : (a b : List ℕ) → FirstOf (12 if (Bad a ⊎ Bad b) ∷ []) (elapsedOf a b .number)
   pub refused : (a b : List ℕ) → (elapsedOf a b .number ≡ 0 → ⊥) → elapsedOf a b ≡ record { number = 12; ms = pos 0 }

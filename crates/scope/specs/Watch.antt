@@ -16,8 +16,8 @@ use Rattle.watch.specs.declared.Watch.{Watch}
 use Rattle.scope.specs.Notions.{Reason, _if_, FirstOf}
 use Rattle.scope.specs.Tags.{Says, Bounds, Bad}
 
--- A lent record outside these bounds is refused: 16 for a limit, 13 for an expected block, 12 for a last tag, in that order; the last two
--- only when it is open. The offered block is then tested (4), then its tag (12).
+-- Whatever record is lent is tested: 16 for its limit, then, only where it is open, 13 for its expected block and 12 for its last tag. Then
+-- come 4 for the block that is offered and 12 for its tag.
 abbrev pub refusals : Watch → ℕ → List ℕ → List Reason
 refusals w b s =
     16 if (3600000 < w .limit)
@@ -28,8 +28,8 @@ refusals w b s =
     ∷ []
 
 -- What an accepted offer does, by its kind: 1 a stray, 2 opened, 3 kept; closed 4 as clock back, 5 as late, 6 as broken, 7 as complete.
--- Idle: block 0 opens; another block is a stray. Open, d = elapsed from the last tag: d below 0 closes as clock back; else d above the
--- limit closes as late; else a block other than the expected one closes as broken; else block 10 closes as complete; else it is kept.
+-- Idle: block 0 opens a scan, any other block is a stray. Open, d being the time from the last tag to the offered one: d is negative (4), d
+-- is greater than the limit (5), the block is not the expected one (6), it is block 10 (7); otherwise the scan goes on (3).
 abbrev pub rules : Watch → ℕ → Tag → List Reason
 rules w b t =
     2 if ((w .opened ≡ false) × (b ≡ 0))
@@ -47,8 +47,8 @@ pub record Watching : Type 0 where
   pub number : (w : Watch) (b : ℕ) (s : List ℕ) → FirstOf (refusals w b s) (numberOf (stepOf w b s .verdict))
   pub rule : (w : Watch) (b : ℕ) (s : List ℕ) (t : Tag) → Says s t → numberOf (stepOf w b s .verdict) ≡ 0 → FirstOf (rules w b t) (kindOf (stepOf w b s .verdict))
   pub left : OneOffer
-  -- Kept: the expected number rises by one and the tag is kept.
+  -- The scan goes on: the next block is expected, and the tag offered is the last one now.
   pub kept : (w : Watch) (b : ℕ) (s : List ℕ) → kindOf (stepOf w b s .verdict) ≡ 3
       → stepOf w b s .next ≡ record { opened = true; expected = w .expected + 1; last = tagOf s; limit = w .limit }
-  -- Over any offers to a watch begun idle a completed scan's elapsed time is from 0 to ten times the limit.
+  -- A watch is begun idle and gets any offers. Then a scan that it completes takes no less than 0 and no more than ten limits.
   pub scans : AnyOffers

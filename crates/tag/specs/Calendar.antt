@@ -9,6 +9,6 @@ use Rattle.ground.specs.Choice.{pick}
 abbrev pub leap : ℕ → Bool
 leap y = eqb (y % 400) 0 || (not (eqb (y % 100) 0) && eqb (y % 4) 0)
 
--- A year's days are 365, 366 in a leap year.
+-- A year has 365 days, a leap year 366.
 abbrev pub daysIn : ℕ → ℕ
 daysIn y = pick (leap y) 366 365

@@ -9,7 +9,7 @@ use Rattle.tag.specs.Calendar.{daysIn}
 use Rattle.tag.specs.Tags.{tagDigits, tagOf, bytesOf, readTag, writeTag, zeroTag}
 use Rattle.tag.specs.declared.Tag.{Tag}
 
--- Eight bytes; no digit above 9; a day from 1 to 365 (366 in a leap year), hour to 23, minute and second to 59.
+-- Eight bytes; no digit over 9; no day 0, nor one over 365 (over 366 in a leap year), no hour over 23, no minute or second over 59.
 pub record IsTag (s : List ℕ) : Type 0 where
   pub eight : length s ≡ 8
   pub digits : (i : ℕ) → i < 16 → getD (tagDigits s) i 0 ≤ 9
@@ -19,7 +19,7 @@ pub record IsTag (s : List ℕ) : Type 0 where
   pub minute : tagOf s .minute ≤ 59
   pub second : tagOf s .second ≤ 59
 
--- The same bounds on numbers: year to 9999, millisecond to 999.
+-- The same bounds on numbers; so the year is at most 9999 and the millisecond at most 999.
 pub record Bounded (t : Tag) : Type 0 where
   pub year : t .year ≤ 9999
   pub day : 1 ≤ t .day
@@ -41,7 +41,7 @@ pub record Writing : Type 0 where
   pub refused : (t : Tag) → (Bounded t → ⊥) → writeTag t ≡ record { number = 12; bytes = replicate 8 0 }
   pub only : (t : Tag) → writeTag t .number ≡ 0 → Bounded t
 
--- Reading a written tag returns the numbers and the mark; writing what was read returns the bytes.
+-- Reading a written tag gives the numbers and the mark; writing what was read gives the bytes.
 pub record ThereAndBack : Type 0 where
   pub read-written : (t : Tag) → writeTag t .number ≡ 0 → readTag (writeTag t .bytes) ≡ record { number = 0; tag = t }
   pub write-read : (s : List ℕ) → ((i : ℕ) → getD s i 0 < 256) → readTag s .number ≡ 0 → writeTag (readTag s .tag) ≡ record { number = 0; bytes = s }

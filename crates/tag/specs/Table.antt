@@ -6,7 +6,7 @@ use mathlib.Core.Bool.{true}
 use mathlib.Core.List.{[], _∷_}
 use Rattle.tag.specs.Tags.{readTag, zeroTag}
 
--- 2008 day 366 is good, 2007 day 366 is 12.
+-- Day 366 is good in 2008, refusal 12 in 2007.
 pub record Row11 : Type 0 where
   pub good : readTag (0x20 ∷ 0x08 ∷ 0x36 ∷ 0x60 ∷ 0x00 ∷ 0x00 ∷ 0x00 ∷ 0x00 ∷ []) .number ≡ 0
   pub bad : readTag (0x20 ∷ 0x07 ∷ 0x36 ∷ 0x60 ∷ 0x00 ∷ 0x00 ∷ 0x00 ∷ 0x00 ∷ []) ≡ record { number = 12; tag = zeroTag }

@@ -20,11 +20,11 @@ bytesLong = 8
 abbrev firstBit : ℕ
 firstBit = 128
 
--- The first bit of byte 3 is the flywheel mark
+-- The first bit of byte 3 is not part of the day: it is the flywheel mark;
 abbrev pub marked : List ℕ → Bool
 marked s = leb firstBit (getD s 2 0)
 
--- and no part of the day: the bytes without it.
+-- and the bytes without it.
 abbrev pub unmarked : List ℕ → List ℕ
 unmarked s = set s 2 (getD s 2 0 % firstBit)
 
@@ -32,7 +32,7 @@ unmarked s = set s 2 (getD s 2 0 % firstBit)
 abbrev pub withMark : Bool → List ℕ → List ℕ
 withMark f s = set s 2 (pick f firstBit 0 + getD s 2 0)
 
--- Eight bytes hold sixteen BCD digits.
+-- A tag is eight bytes, sixteen BCD digits.
 abbrev pub tagDigits : List ℕ → List ℕ
 tagDigits s = digitsOf (unmarked s)
 
@@ -40,7 +40,8 @@ tagDigits s = digitsOf (unmarked s)
 abbrev pub part : ℕ → ℕ → List ℕ → ℕ
 part i k ds = valueOf (take k (drop i ds))
 
--- Year (4), day of year (3), hour (2), minute (2), second (2), millisecond (3): as bytes have them,
+-- Four digits for the year, three for the day of the year, two each for hour, minute and second, three for
+-- the millisecond: as bytes have them,
 unfoldable pub tagOf : List ℕ → Tag
 tagOf s =
     record {
@@ -61,7 +62,7 @@ digitsOfTag t = spelt 4 (t .year) ++ (spelt 3 (t .day) ++ (spelt 2 (t .hour) ++ 
 unfoldable pub bytesOf : Tag → List ℕ
 bytesOf t = withMark (t .flywheel) (paired (digitsOfTag t))
 
--- The bounds: year to 9999, day 1 to 365 (366 in a leap year), hour to 23, minute and second to 59, millisecond to 999.
+-- The bounds: year to 9999; day from 1, to 366 in a leap year, else to 365; hour to 23, minute and second to 59; millisecond to 999.
 unfoldable pub inBounds : Tag → Bool
 inBounds t =
     leb (t .year) 9999

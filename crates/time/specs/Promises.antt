@@ -28,7 +28,7 @@ pub record SameTime (a b : Tag) : Type 0 where
   pub second : a .second ≡ b .second
   pub ms : a .ms ≡ b .ms
 
--- Elapsed time, refused with 12 for a bad tag; the flywheel mark doesn't enter it. It is positive, negative or zero as the
+-- Elapsed time, refused with 12 for a bad tag; the flywheel mark has no part in it. It is positive, negative or zero as the
 -- second tag is later, earlier or the same, changes its sign with the direction, and adds up.
 pub record Elapsing : Type 0 where
   pub taken : (a b : List ℕ) → IsTag a → IsTag b → elapsedOf a b ≡ record { number = 0; ms = between (tagOf a) (tagOf b) }

@@ -23,18 +23,18 @@ onFlywheel = 0x20 ∷ 0x08 ∷ 0x86 ∷ 0x02 ∷ 0x35 ∷ 0x95 ∷ 0x99 ∷ 0x99
 abbrev day60 : Bool → Tag
 day60 f = record { year = 2008; day = 60; hour = 23; minute = 59; second = 59; ms = 999; flywheel = f }
 
--- Tag 20 08 06 02 35 95 99 99 is 2008 day 60, 23:59:59.999; 20 08 06 10 00 00 00 00 is 1 ms later; backward it is -1.
+-- Tag 20 08 06 02 35 95 99 99: 2008 day 60, 23:59:59.999. From it to 20 08 06 10 00 00 00 00: 1 ms; the other way -1.
 pub record Row9 : Type 0 where
   pub says : readTag lastOfDay60 ≡ record { number = 0; tag = day60 false }
   pub forward : elapsedOf lastOfDay60 firstOfDay61 ≡ record { number = 0; ms = pos 1 }
   pub backward : elapsedOf firstOfDay61 lastOfDay60 ≡ record { number = 0; ms = negsuc 0 }
 
--- Third byte 86 there: same time, flywheel on.
+-- The first tag of row 9 with 86 as its third byte: the same time, with the flywheel mark on.
 pub record Row10 : Type 0 where
   pub says : readTag onFlywheel ≡ record { number = 0; tag = day60 true }
   pub same : elapsedOf lastOfDay60 onFlywheel ≡ record { number = 0; ms = pos 0 }
 
--- Midnight of 2007 day 365 to 2008 day 1: 86,400,000 ms.
+-- Midnight of 2007 day 365 to midnight of 2008 day 1: 86,400,000 ms.
 pub record Row12 : Type 0 where
   pub a-day : elapsedOf (0x20 ∷ 0x07 ∷ 0x36 ∷ 0x50 ∷ 0x00 ∷ 0x00 ∷ 0x00 ∷ 0x00 ∷ []) (0x20 ∷ 0x08 ∷ 0x00 ∷ 0x10 ∷ 0x00 ∷ 0x00 ∷ 0x00 ∷ 0x00 ∷ [])
       ≡ record { number = 0; ms = pos 86400000 }

@@ -1,4 +1,4 @@
--- What time a tag says, and the time from one tag to a second.
+-- What time a tag says, and the elapsed time from a first tag to a second.
 -- Assumes nothing.
 use Prim.Native.Nat.{ℕ, _+_, _*_}
 use mathlib.Core.Bool.{_&&_}
@@ -10,11 +10,11 @@ use Rattle.tag.specs.declared.Tag.{Tag}
 use Rattle.time.specs.Years.{daysBefore}
 use Rattle.time.specs.declared.count.Elapsed.{Elapsed}
 
--- Milliseconds from the midnight that begins the day before day 1 of year 0. The flywheel mark doesn't enter.
+-- Milliseconds from the midnight that begins the day before day 1 of year 0. The flywheel mark has no part in it.
 unfoldable pub timeOf : Tag → ℕ
 timeOf t = ((((daysBefore (t .year) + t .day) * 24 + t .hour) * 60 + t .minute) * 60 + t .second) * 1000 + t .ms
 
--- A signed count of milliseconds: negative where the second is earlier.
+-- Milliseconds with a sign: below zero where the second tag is the earlier one.
 abbrev pub between : Tag → Tag → ℤ
 between a b = pos (timeOf b) -ℤ pos (timeOf a)
 

@@ -1,4 +1,4 @@
-// The time from one tag to a second. The count behind it is in specs/Times.antt, what is promised of it in specs/Promises.antt.
+// The elapsed time from a first tag to a second. The count behind it is in specs/Times.antt, what is promised of it in specs/Promises.antt.
 ghost use mathlib.Core.Path.{_≡_};
 ghost use Rattle.time.specs.Times.{between, elapsedOf};
 use tag::Tag;
@@ -7,7 +7,7 @@ mod count; // milliseconds to a tag's time
 
 pub use count::Elapsed;
 
-// The time from one tag to a second, of any numbers: negative where the second is earlier.
+// The time from a first tag to a second, of any numbers: below zero where the second tag is the earlier one.
 pub fn between(from: Tag, to: Tag) -> i64
     ensures { λ r. ⌜ r ≡ between from to ⌝ }
 {

@@ -27,11 +27,11 @@ badExpected w = w .opened && (ltb (w .expected) 1 || ltb lastOfScan (w .expected
 abbrev pub badLast : Watch → Bool
 badLast w = w .opened && not (inBounds (w .last))
 
--- A lent record outside its bounds is refused: 16 for a limit, 13 for an expected block, 12 for a last tag, in that order.
+-- Whatever record is lent is tested: 16 for its limit, 13 for its expected block, 12 for its last tag.
 abbrev pub lent : Watch → List Ground
 lent w = (16 when badLimit w) ∷ (13 when badExpected w) ∷ (12 when badLast w) ∷ []
 
--- The offered block is then tested (4), then its tag (12), which is good or not.
+-- Then come 4 for the block that is offered and 12 for its tag, which is good or not.
 abbrev pub offered : ℕ → Bool → List Ground
 offered b good = (4 when ltb lastBlock b) ∷ (12 when not good) ∷ []
 

@@ -30,12 +30,12 @@ resting limit =
 abbrev pub waiting : ℕ → Tag → ℕ → Watch
 waiting block tag limit = record { opened = true; expected = block; last = tag; limit = limit }
 
--- A watch begins idle, with a limit from 0 to 3,600,000 ms; above it 16, with zeros.
+-- At first a watch is idle, and has a limit between 0 and 3,600,000 ms; above it 16, with zeros.
 pub record Beginning : Type 0 where
   pub taken : (limit : ℕ) → limit ≤ 3600000 → beginOf limit ≡ record { number = 0; watch = resting limit }
   pub refused : (limit : ℕ) → 3600000 < limit → beginOf limit ≡ record { number = 16; watch = resting 0 }
 
--- The bounds of a lent record; the last two only when it is open.
+-- The bounds of a lent record; of block and tag only where it is open.
 pub record Within (w : Watch) : Type 0 where
   pub limit : w .limit ≤ 3600000
   pub expected : w .opened ≡ true → (1 ≤ w .expected) × (w .expected ≤ 10)
@@ -51,7 +51,7 @@ pub record Sound (w : Watch) (b : ℕ) (s : List ℕ) : Type 0 where
 abbrev pub given : Watch → ℕ → List ℕ → ℕ
 given w b s = numberOf (stepOf w b s .verdict)
 
--- It is 16 for a limit, 13 for an expected block, 12 for a last tag, in that order; then 4 for the block, 12 for its tag.
+-- It is 16 for its limit, then 13 for its expected block and 12 for its last tag; then 4 for the block that is offered and 12 for its tag.
 pub record Numbers : Type 0 where
   pub limit : (w : Watch) (b : ℕ) (s : List ℕ) → 3600000 < w .limit → given w b s ≡ 16
   pub expected : (w : Watch) (b : ℕ) (s : List ℕ) → w .limit ≤ 3600000 → w .opened ≡ true → ((1 ≤ w .expected) × (w .expected ≤ 10) → ⊥) → given w b s ≡ 13
@@ -72,7 +72,8 @@ pub record OneOffer : Type 0 where
   pub unread : (v w : Watch) (b : ℕ) (s : List ℕ) → v .opened ≡ false → w .opened ≡ false → v .limit ≡ w .limit
       → stepOf v b s .verdict ≡ stepOf w b s .verdict
   pub opening : (w : Watch) (b : ℕ) (s : List ℕ) → kind w b s ≡ 2 → stepOf w b s .next ≡ waiting 1 (tagOf s) (w .limit)
-  -- A closing offer that is block 0 also opens a new scan. After any other closing the watch is idle, its expected block and tag zero.
+  -- Where the offer that closes a scan is block 0, it opens the next one as well. Every other closing leaves the watch idle, with zeros for
+  -- expected block and tag.
   pub anew : (w : Watch) (b : ℕ) (s : List ℕ) → 4 ≤ kind w b s → b ≡ 0 → stepOf w b s .next ≡ waiting 1 (tagOf s) (w .limit)
   pub at-rest : (w : Watch) (b : ℕ) (s : List ℕ) → 4 ≤ kind w b s → (b ≡ 0 → ⊥) → stepOf w b s .next ≡ resting (w .limit)
   -- The limit stays.
@@ -104,7 +105,7 @@ pub record AcceptedOffer : Type 0 where
   pub complete : (w : Watch) (b : ℕ) (s : List ℕ) → InTime w b s → b ≡ w .expected → b ≡ 10 → kind w b s ≡ 7
   pub kept : (w : Watch) (b : ℕ) (s : List ℕ) → InTime w b s → b ≡ w .expected → (b ≡ 10 → ⊥)
       → (kind w b s ≡ 3) × (stepOf w b s .next ≡ waiting (w .expected + 1) (tagOf s) (w .limit))
-  -- Block 11 while open is broken, unless the clock decides first.
+  -- Block 11 breaks an open scan, if the clock has not closed it first.
   pub eleven : (w : Watch) (s : List ℕ) → InTime w 11 s → kind w 11 s ≡ 6
 
 -- After the offers os to a watch: the block 0 that began the scan it is in was offered and accepted, with none after it.
@@ -116,7 +117,7 @@ pub record BegunBy (w : Watch) (os : List Offer) : Type 0 where
   pub begun : begins (after w earlier) first ≡ true
   pub none-since : noneBegins (nextOf (after w earlier) first) since ≡ true
 
--- The offer o after the offers os completes a scan, which its block 10 ends, from 0 to ten times the limit after its block 0.
+-- The offer o after the offers os completes a scan, which its block 10 ends, no less than 0 and no more than ten limits after its block 0.
 pub record Scan (limit : ℕ) (os : List Offer) (o : Offer) : Type 0 where
   pub by : BegunBy (resting limit) os
   pub ten : o .block ≡ 10
@@ -125,7 +126,7 @@ pub record Scan (limit : ℕ) (os : List Offer) (o : Offer) : Type 0 where
   pub soon : elapsedOf (by .first .tag) (o .tag) .ms ≤ℤ pos (10 * limit)
 
 pub record AnyOffers : Type 0 where
-  -- Over any offers to a watch begun idle, refused ones among them.
+  -- A watch is begun idle and gets any offers, some of them refused.
   pub completed : (limit : ℕ) (os : List Offer) (o : Offer) → kindOf (verdictOf (after (resting limit) os) o) ≡ 7 → Scan limit os o
   -- A scan whose blocks 0 to 10 are offered in order, each from 0 to the limit after the one before it, is completed.
   pub whole : (limit : ℕ) (tag : ℕ → List ℕ) → limit ≤ 3600000 → ((k : ℕ) → k ≤ 10 → IsTag (tag k))

@@ -22,32 +22,33 @@ use Rattle.watch.specs.declared.Begun.{Begun}
 abbrev pub idle : ℕ → Watch
 idle limit = record { opened = false; expected = 0; last = zeroTag; limit = limit }
 
--- Open, with the next expected block and the last tag.
+-- Open: it has the block that it expects next, and the last tag.
 abbrev pub expecting : ℕ → Tag → ℕ → Watch
 expecting b t limit = record { opened = true; expected = b; last = t; limit = limit }
 
--- A watch begins idle, with a waiting limit from 0 to 3,600,000 ms; above it 16, and every part of the record zero.
+-- At first a watch is idle, and has a waiting limit between 0 and 3,600,000 ms; above it 16, and every part of the record zero.
 unfoldable pub beginOf : ℕ → Begun
 beginOf limit = pick (ltb longestWait limit) (record { number = 16; watch = idle 0 }) (record { number = 0; watch = idle limit })
 
--- Idle: block 0 opens with expected 1; another block is a stray and the watch stays as it is.
+-- Idle: block 0 opens a scan, and block 1 is expected. Any other block is a stray, which changes nothing.
 unfoldable pub onIdle : Watch → ℕ → Tag → Stepped
 onIdle w b t = pick (eqb b 0) (record { next = expecting 1 t (w .limit); verdict = Opened }) (record { next = w; verdict = Stray })
 
--- A closing offer that is block 0 also opens a new scan. After any other closing the watch is idle, its expected block and
--- tag zero.
+-- Where the offer that closes a scan is block 0, it opens the next one as well. Every other closing leaves the watch idle, with zeros for
+-- expected block and tag.
 abbrev pub closing : Watch → ℕ → Tag → Closing → Stepped
 closing w b t why = record { next = pick (eqb b 0) (expecting 1 t (w .limit)) (idle (w .limit)); verdict = Closed why }
 
--- In time: a block other than the expected one closes as broken; else block 10 closes as complete; else the expected number rises
--- by one and the tag is kept.
+-- In time. The block is not the expected one: the scan closes as broken. The block is block 10: it closes as complete. Otherwise the scan
+-- goes on: the next block is expected, and the tag offered is the last one now.
 unfoldable pub inTime : Watch → ℕ → Tag → Stepped
 inTime w b t =
     pick (not (eqb b (w .expected))) (closing w b t Broken)
     (pick (eqb b lastOfScan) (closing w b t Complete)
     (record { next = expecting (w .expected + 1) t (w .limit); verdict = Kept }))
 
--- Open, d = elapsed from the last tag, clock first: d below 0 closes as clock back; else d above the limit closes as late.
+-- Open, with d the time from the last tag to the offered one. d is negative: the scan closes as clock back. d is greater than the limit: it
+-- closes as late.
 unfoldable pub onOpen : Watch → ℕ → Tag → ℤ → Stepped
 onOpen w b t d = pick (ltZ d (pos 0)) (closing w b t ClockBack) (pick (ltZ (pos (w .limit)) d) (closing w b t Late) (inTime w b t))
 

@@ -1,4 +1,4 @@
-// The scan watch, over blocks 0 to 10: how it begins, one offer to it by value, and the thin function over a watch that the
+// The watch that follows blocks 0 to 10 of a scan: how it begins, one offer to it by value, and the thin function over a watch that the
 // host lends. The rules stand in specs/Rules.antt, what is promised of any sequence of offers in specs/Promises.antt.
 ghost use mathlib.Core.Path.{_≡_};
 ghost use Rattle.watch.specs.Rules.{beginOf, stepOf};
@@ -7,7 +7,7 @@ use tag::Tag;
 mod bounds; // what an offer is refused for
 mod rules; // what an accepted offer does
 
-// Idle, or open with the next expected block (1 to 10) and the last tag. What an idle one holds of these is not read.
+// Idle or open. Open, it has the block that it expects next, 1 to 10, and the last tag. What an idle one holds of these is not read.
 pub struct Watch {
     pub opened: bool,
     pub expected: u8,

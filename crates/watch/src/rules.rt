@@ -51,7 +51,7 @@ fn on_idle(w: Watch, block: u8, t: Tag) -> Stepped
     }
 }
 
-// A closing offer that is block 0 opens a new scan.
+// Where the offer that closes a scan is block 0, it opens the next one as well.
 fn close(w: Watch, block: u8, t: Tag, why: Closing) -> Stepped
     ensures { λ r. ⌜ r ≡ closing w block t why ⌝ }
 {

@@ -22,7 +22,7 @@ blockBytes header = blockLength (bytesIn header)
 abbrev pub writtenBlock : (header words : List ℕ) → List ℕ
 writtenBlock header words = blockOf header (sizeIn header) (bytesIn header) words
 
--- 8: words not exactly the required number; 9: lent room smaller than needed; 14: a word too large for its size
+-- 8: more or fewer words than there must be; 9: less room than is needed; 14: a word that does not fit its size
 abbrev pub wordGrounds : (header words : List ℕ) → ℕ → List Ground
 wordGrounds header words room =
     (8 when not (eqb (length words) (wordsIn header)))
@@ -30,7 +30,7 @@ wordGrounds header words room =
     ∷ (14 when not (allFit (sizeIn header) words))
     ∷ []
 
--- the writer takes 28 header bytes and words and tests 1, 4 to 8, 9, 14
+-- the writer, which is lent 28 header bytes and words: 1, 4, 5, 6, 7, 8, 9, 14
 abbrev pub writeGrounds : (header words : List ℕ) → ℕ → List Ground
 writeGrounds header words room = planGrounds header ++ wordGrounds header words room
 
@@ -45,7 +45,7 @@ unfoldable pub writtenOf : (header words : List ℕ) → ℕ → Written
 writtenOf header words room =
     pick (eqb (writeRefusal header words room) 0) (record { number = 0; bytes = blockBytes header }) (refusedWritten (writeRefusal header words room))
 
--- the block stands at the front of the room, and nothing behind it has changed; a refusal leaves the room unchanged
+-- the block stands at the front of the room, and behind it nothing is changed; a refusal leaves the room as it was
 unfoldable pub roomWritten : (header words room : List ℕ) → List ℕ
 roomWritten header words room =
     pick (eqb (writeRefusal header words (length room)) 0)

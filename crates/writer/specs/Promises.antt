@@ -59,12 +59,12 @@ pub record WritesExactly : Type 0 where
   pub only : (header words : List ℕ) (lent : ℕ) → Writable header words lent
       → (a : AsksFor header words) × (blockLength (fieldBytes (a .number) (length words)) ≤ lent)
 
--- writing a header and words leaves the block at the front of the room and nothing changed behind it, and returns its count of bytes
+-- writing a header and words leaves the block at the front of the room, changes nothing behind it, and gives its count of bytes
 pub record Puts (header words block room : List ℕ) : Type 0 where
   pub count : writtenOf header words (length room) ≡ record { number = 0; bytes = length block }
   pub left : roomWritten header words room ≡ block ++ drop (length block) room
 
--- Acceptance writes the block's bytes at the front of the room and nothing behind them, and returns that count.
+-- Acceptance writes the bytes of the block at the front of the room, changes nothing behind them, and gives how many there are.
 abbrev pub WritesFront : Type 0
 WritesFront = (header words room : List ℕ) → Writable header words (length room) → Puts header words (writtenBlock header words) room
 
@@ -78,12 +78,12 @@ WritesBlocks = (header words : List ℕ) (lent : ℕ) → Writable header words 
 abbrev pub wholeAnswer : (header words : List ℕ) → Answer
 wholeAnswer header words = record { number = 0; header = header; first = true; second = true; third = true; words = length words }
 
--- reading a block gives the header, and leaves the words at the front of the room and nothing changed behind them
+-- reading a block gives the header, leaves the words at the front of the room, and changes nothing behind them
 pub record Gives (block header words room : List ℕ) : Type 0 where
   pub answer : answerOf block (length room) ≡ wholeAnswer header words
   pub left : roomAfter block room ≡ words ++ drop (length words) room
 
--- Reading a written block returns what went in.
+-- What was written reads back as what went in.
 abbrev pub ReadsBack : Type 0
 ReadsBack =
     (header words room : List ℕ) (lent : ℕ) → Below 256 header → Writable header words lent → length words ≤ length room
@@ -96,7 +96,7 @@ headerRead block room = answerOf block (length room) .header
 abbrev pub wordsRead : (block room : List ℕ) → List ℕ
 wordsRead block room = take (answerOf block (length room) .words) (roomAfter block room)
 
--- Rewriting an accepted block whose copies are equal returns its bytes.
+-- An accepted block with three equal copies, written again, gives its own bytes.
 abbrev pub WritesBack : Type 0
 WritesBack =
     (block c room dest : List ℕ) → Below 256 block → Accepted block (length room) → ThreeEqual block c → length block ≤ length dest

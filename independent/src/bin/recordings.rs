@@ -92,7 +92,7 @@ fn every_answer() -> Vec<u8> {
     bytes
 }
 
-/// One acceptable block 3, version 2, C = 20, then a field of 89 bytes.
+/// The scope's example: an acceptable block 3 of version 2 with C = 20, and 89 bytes.
 fn example() -> Vec<u8> {
     [field(1, &block(3, 2)), field(1, &[0; 89])].concat()
 }
