@@ -10,7 +10,7 @@ use Rattle.ground.proofs.LawsChoice.{no, either}
 use Rattle.row.specs.Pixels.{imageSize}
 use Rattle.row.specs.Rows.{fixedBits}
 use Rattle.row.specs.Field.{upTo16, fieldBits, fieldBytes}
-use Rattle.row.specs.Suits.{zeroth, first, second, others, last6, last8, last10}
+use Rattle.row.specs.Suits.{zeroth, first, second, second3, others, last6, last8, last10}
 use Rattle.row.specs.Promises.{WordsAtMost, FieldsEven, longestField, Held, WordsHeld}
 
 pub bits-whole : (b n : ℕ) → fieldBits b n % 16 ≡ 0
@@ -36,7 +36,8 @@ image-held b n e most =
 pub words-at-most : WordsAtMost
 words-at-most _ _ _ _ zeroth = lit≤ tt
 words-at-most _ _ _ _ (first s) = omega (arith, s .wide)
-words-at-most _ _ _ _ (second s) = omega (arith, s .wide)
+words-at-most _ _ _ _ (second _ s) = omega (arith, s .wide)
+words-at-most _ _ _ _ (second3 s) = omega (arith, s .wide)
 words-at-most _ _ _ _ (others l h s) = omega (arith, s .wide)
 words-at-most _ _ _ _ last6 = lit≤ tt
 words-at-most _ _ _ _ last8 = lit≤ tt
@@ -46,7 +47,8 @@ pub words-held : WordsHeld
 unfolding fieldBytes fieldBits
 words-held _ _ _ _ zeroth = record { low = lit≤ tt; high = lit≤ tt; fits = lit≤ tt; short = lit≤ tt }
 words-held _ _ _ _ (first {n = n} s) = image-held 1 (4 * (16 + n)) refl (omega (arith, s .wide))
-words-held _ _ _ _ (second {n = n} s) = image-held 2 (3 * (16 + n)) refl (omega (arith, s .wide))
+words-held _ _ _ _ (second {n = n} _ s) = image-held 2 (3 * (16 + n)) refl (omega (arith, s .wide))
+words-held _ _ _ _ (second3 {n = n} s) = image-held 2 (4 * (16 + n)) refl (omega (arith, s .wide))
 words-held _ _ _ _ (others {b = b} {n = n} l h s) =
     image-held b (16 + 4 * n) (ap₂ _||_ (ne-eqb b 0 (λ e. omega arith)) (ne-eqb b 11 (λ e. omega arith))) (omega (arith, s .wide))
 words-held _ _ _ _ last6 = record { low = lit≤ tt; high = lit≤ tt; fits = lit≤ tt; short = lit≤ tt }

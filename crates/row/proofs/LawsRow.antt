@@ -4,14 +4,14 @@ use Prim.Native.Nat.{ℕ, _+_, _*_, _<_, _≤_}
 use mathlib.Core.Path.{_≡_, refl, sym, ap, _∙_, subst}
 use mathlib.Core.Bool.{Bool, true, false, _&&_}
 use native.Mathlib.Omega.{arith}
-use lib.Dec.{lit<, eqb, leb}
+use lib.Dec.{lit<, eqb, leb, ltb}
 use lib.Arith.{lt-of-le-ne}
-use borrow.Author.Tests.{leb-true, leb-false, eqb-true, eqb-false, ne-eqb, le-leb, lt-leb}
+use borrow.Author.Tests.{leb-true, leb-false, eqb-true, eqb-false, ltb-true, ltb-false, ne-eqb, le-leb, lt-leb, le-ltb, lt-ltb}
 use Rattle.ground.proofs.LawsChoice.{yes, no, either}
 use Rattle.ground.proofs.LawsTests.{both, split, not-second}
 use Rattle.row.specs.declared.Row.{Row}
 use Rattle.row.specs.Rows.{recordsIn, fixedRow, infraredRow, visibleRow, noRow, rowOf, permits}
-use Rattle.row.specs.Suits.{Suits, zeroth, first, second, others, last6, last8, last10}
+use Rattle.row.specs.Suits.{Scan, Suits, zeroth, first, second, second3, others, last6, last8, last10}
 use Rattle.row.specs.Promises.{Takes}
 use Rattle.row.proofs.LawsScan.{permits-fixed, permits-wide, wide-permits}
 
@@ -59,6 +59,19 @@ row-cases P b v w h0 h1 h2 h3 h6 h8 h10 hn =
     either P (eqb w 6) (λ g. h6 f (eqb-true w 6 g)) (λ _. either P (eqb w 8) (λ g. h8 f (eqb-true w 8 g)) (λ _. h10 f)))
     (λ e11. hn (past-last b e0 e1 e2 e3 e11))))))
 
+-- block 2 has three records before version 3 and four from it on
+pub before-3 : (v : ℕ) → v ≤ 2 → 3 ≡ recordsIn 2 v
+unfolding recordsIn
+before-3 v l = yes _ refl (lt-ltb v 3 (omega arith)) refl
+
+pub from-3 : (v : ℕ) → 3 ≤ v → 4 ≡ recordsIn 2 v
+unfolding recordsIn
+from-3 v l = no _ refl (le-ltb v 3 l) refl
+
+pub second-cases : (P : ℕ → Type 0) (v : ℕ) → (v ≤ 2 → P 3) → (3 ≤ v → P 4) → P (recordsIn 2 v)
+unfolding recordsIn
+second-cases P v before from = either P (ltb v 3) (λ e. before (omega (arith, ltb-true v 3 e))) (λ e. from (ltb-false v 3 e))
+
 -- the records of a row are those of its block number
 records-others : (b v : ℕ) → 3 ≤ b → b ≤ 10 → 1 ≡ recordsIn b v
 unfolding recordsIn
@@ -79,28 +92,39 @@ row-records b v w =
 at : {b w n b′ w′ n′ : ℕ} {v : ℕ} → b ≡ b′ → w ≡ w′ → n ≡ n′ → Suits b′ v w′ n′ → Suits b v w n
 at {b} {w} {n} {b′} {w′} {n′} {v} e f g s = subst (λ (x : ℕ). Suits x v w n) (sym e) (subst (λ (x : ℕ). Suits b′ v x n) (sym f) (subst (λ (x : ℕ). Suits b′ v w′ x) (sym g) s))
 
-sized-suits : (b v w n : ℕ) → rowOf b v w .size ≡ w → permits (rowOf b v w) n ≡ true → Suits b v w n
+in-3 : {n : ℕ} (v : ℕ) → v ≤ 3 → 3 ≤ v → Scan n → Suits 2 v 10 (4 * (16 + n))
+in-3 {n} v h l s = subst (λ (x : ℕ). Suits 2 x 10 (4 * (16 + n))) (omega arith) (second3 s)
+
+sized-suits : (b v w n : ℕ) → v ≤ 3 → rowOf b v w .size ≡ w → permits (rowOf b v w) n ≡ true → Suits b v w n
 unfolding recordsIn
-sized-suits b v w n =
+sized-suits b v w n known =
     let fixed : (r : Row) → r .each ≡ 0 → permits r n ≡ true → n ≡ r .fixed = λ r z h. permits-fixed r n z h .1 in
     row-cases (λ r. r .size ≡ w → permits r n ≡ true → Suits b v w n) b v w
     (λ e s h. at e (sym s) (fixed (fixedRow 8) refl h) zeroth)
     (λ e s h. let k = permits-wide (infraredRow 4) n (lit< tt) h in at e (sym s) (omega (arith, k .counted)) (first (k .scan)))
-    (λ e s h. let k = permits-wide (infraredRow 3) n (lit< tt) h in at e (sym s) (omega (arith, k .counted)) (second (k .scan)))
+    (λ e. second-cases (λ r. infraredRow r .size ≡ w → permits (infraredRow r) n ≡ true → Suits b v w n) v
+    (λ l s h. let k = permits-wide (infraredRow 3) n (lit< tt) h in at e (sym s) (omega (arith, k .counted)) (second l (k .scan)))
+    (λ l s h. let k = permits-wide (infraredRow 4) n (lit< tt) h in at e (sym s) (omega (arith, k .counted)) (in-3 v known l (k .scan))))
     (λ l u s h. let k = permits-wide visibleRow n (lit< tt) h in at refl (sym s) (k .counted) (others l u (k .scan)))
     (λ e _ s h. at e (sym s) (fixed (fixedRow 6) refl h) last6)
     (λ e _ s h. at e (sym s) (fixed (fixedRow 8) refl h) last8)
     (λ e s h. at e (sym s) (fixed (fixedRow 10) refl h) last10)
     (λ _ s h. let k = permits-fixed noRow n refl h in absurd (omega (arith, k .0, k .1)))
 
-pub takes-suits : {b v w n : ℕ} → Takes b v w n → Suits b v w n
-takes-suits {b} {v} {w} {n} t = sized-suits b v w n (t .sized) (t .counted)
+pub takes-suits : {b v w n : ℕ} → v ≤ 3 → Takes b v w n → Suits b v w n
+takes-suits {b} {v} {w} {n} known t = sized-suits b v w n known (t .sized) (t .counted)
 
 pub suits-takes : {b v w n : ℕ} → Suits b v w n → Takes b v w n
 unfolding rowOf recordsIn permits
 suits-takes zeroth = record { sized = refl; counted = refl }
 suits-takes (first {n = n} s) = record { sized = refl; counted = wide-permits (infraredRow 4) (4 * (16 + n)) (lit< tt) (record { pixels = n; scan = s; counted = omega arith }) }
-suits-takes (second {n = n} s) = record { sized = refl; counted = wide-permits (infraredRow 3) (3 * (16 + n)) (lit< tt) (record { pixels = n; scan = s; counted = omega arith }) }
+suits-takes (second {v} {n} l s) =
+    record {
+      sized = refl;
+      counted = subst (λ (r : ℕ). permits (infraredRow r) (3 * (16 + n)) ≡ true) (before-3 v l)
+      (wide-permits (infraredRow 3) (3 * (16 + n)) (lit< tt) (record { pixels = n; scan = s; counted = omega arith }));
+    }
+suits-takes (second3 {n = n} s) = record { sized = refl; counted = wide-permits (infraredRow 4) (4 * (16 + n)) (lit< tt) (record { pixels = n; scan = s; counted = omega arith }) }
 suits-takes (others {b} {v} {n} l h s) =
     let e = row-others b v 10 l h in
     record {

@@ -14,14 +14,15 @@ pub record Takes (block version size count : ℕ) : Type 0 where
   pub sized : rowOf block version size .size ≡ size
   pub counted : permits (rowOf block version size) count ≡ true
 
--- it does so exactly where the table says that they suit the block
+-- it does so, in every version there is, exactly where the table says that they suit the block
 abbrev pub DecidesTable : Type 0
-DecidesTable = (block version size count : ℕ) → Takes block version size count ↔ Suits block version size count
+DecidesTable = (block version size count : ℕ) → version ≤ 3 → Takes block version size count ↔ Suits block version size count
 
 -- how wide a scan is: the n of a count that suits blocks 1 to 10
 pub record Widths : Type 0 where
   pub first : (v n : ℕ) → Scan n → scanOf (rowOf 1 v 10) (4 * (16 + n)) ≡ n
-  pub second : (v n : ℕ) → Scan n → scanOf (rowOf 2 v 10) (3 * (16 + n)) ≡ n
+  pub second : (v n : ℕ) → v ≤ 2 → Scan n → scanOf (rowOf 2 v 10) (3 * (16 + n)) ≡ n
+  pub second3 : (n : ℕ) → Scan n → scanOf (rowOf 2 3 10) (4 * (16 + n)) ≡ n
   pub others : (b v n : ℕ) → 3 ≤ b → b ≤ 10 → Scan n → scanOf (rowOf b v 10) (16 + 4 * n) ≡ n
 
 -- no field has more bytes: so long is that of a scan of 23 degrees, the specification's largest, which no row here permits
@@ -39,7 +40,7 @@ pub record Held (size count bytes : ℕ) : Type 0 where
 abbrev pub WordsHeld : Type 0
 WordsHeld = (block version size count : ℕ) → Suits block version size count → Held size count (fieldBytes block count)
 
--- no block has more words than these, block 1 of the widest scan
+-- no block has more words than these, four records of the widest scan
 abbrev pub mostWords : ℕ
 mostWords = 21008
 

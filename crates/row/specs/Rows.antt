@@ -15,10 +15,13 @@ lastBlock = 11
 abbrev pub lastVersion : ℕ
 lastVersion = 3
 
--- Block 1 consists of 4 records, block 2 of 3 (Table 3-1), each of blocks 3 to 10 of a single one; blocks 0 and 11 have none. The version
--- does not enter so far.
+-- Block 1 consists of 4 records, block 2 of 3 (Table 3-1) before version 3 and of 4 in it, each of blocks 3 to 10 of a single one; blocks 0
+-- and 11 have none.
 unfoldable pub recordsIn : (block version : ℕ) → ℕ
-recordsIn block version = pick (eqb block 1) 4 (pick (eqb block 2) 3 (pick (leb 3 block && leb block 10) 1 0))
+recordsIn block version =
+    pick (eqb block 1) 4
+    (pick (eqb block 2) (pick (ltb version 3) 3 4)
+    (pick (leb 3 block && leb block 10) 1 0))
 
 -- blocks 0 and 11: the field's length in bits, which the words of a size fill
 abbrev pub fixedBits : ℕ

@@ -3,13 +3,16 @@
 ghost use mathlib.Core.Path.{_≡_};
 ghost use Prim.Native.Nat.{_<_};
 ghost use Rattle.row.specs.Pixels.{visibleOf, isScan};
-ghost use Rattle.row.specs.Rows.{fixedRow, infraredRow, visibleRow, lastRow, noRow, rowOf, scanOf, permits};
+ghost use Rattle.row.specs.Rows.{recordsIn, fixedRow, infraredRow, visibleRow, lastRow, noRow, rowOf, scanOf, permits};
 ghost use Rattle.row.specs.Field.{fieldBits, fieldBytes};
 
 // Block numbers and versions go from 0 to these.
 pub const LAST_BLOCK: u8 = 11;
 
 pub const LAST_VERSION: u8 = 3;
+
+// The version with which the eighth infrared detector came, and with it a fourth record in block 2.
+const EIGHTH_DETECTOR: u8 = 3;
 
 // Pixels on the two scales of a scan. Numbers of the two kinds are never added to one another.
 pub struct Infrared(pub u16);
@@ -76,6 +79,16 @@ fn fixed_row(size: u8) -> Row
     }
 }
 
+// The records of block 2.
+fn records_in_2(version: u8) -> u8
+    ensures { λ r. ⌜ r ≡ recordsIn 2 version ⌝ }
+{
+    if version < EIGHTH_DETECTOR {
+        return 3;
+    }
+    4
+}
+
 fn infrared_row(records: u8) -> Row
     ensures { λ r. ⌜ r ≡ infraredRow records ⌝ }
 {
@@ -122,14 +135,14 @@ fn last_row(size: u8) -> Row
     }
 }
 
-// The row of a block number. The version changes none so far.
+// The row of a block number. The version changes that of block 2 alone.
 pub fn row_of(block: u8, version: u8, size: u8) -> Row
     ensures { λ r. ⌜ r ≡ rowOf block version size ⌝ }
 {
     match block {
         0 => fixed_row(8),
         1 => infrared_row(4),
-        2 => infrared_row(3),
+        2 => infrared_row(records_in_2(version)),
         3..=10 => visible_row(),
         11 => last_row(size),
         _ => no_row(),

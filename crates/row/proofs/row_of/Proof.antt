@@ -1,9 +1,9 @@
 -- `row_of` goes by the block number, as its definition does.
 -- Assumes nothing.
-use mathlib.Core.Path.{sym, _∙_}
+use mathlib.Core.Path.{sym, ap, _∙_}
 use native.Mathlib.Omega.{arith}
 use lib.Arith.{lt-of-le-ne}
-use Rattle.row.specs.Rows.{rowOf, recordsIn}
+use Rattle.row.specs.Rows.{recordsIn, infraredRow, rowOf}
 use Rattle.row.proofs.LawsRow.{row-others, row-none}
 use borrow.Author.Needs.{needs}
 use Rattle.row.proofs.row_of.Statement.{statement}
@@ -14,6 +14,9 @@ fixed-row-requires c κs = search needs
 
 infrared-row-requires : tie.Need-infrared-row-requires
 infrared-row-requires c κs = search needs
+
+records-in-2-requires : tie.Need-records-in-2-requires
+records-in-2-requires c κs = search needs
 
 infrared-row-requires-2 : tie.Need-infrared-row-requires-2
 infrared-row-requires-2 c κs = search needs
@@ -36,8 +39,8 @@ unfolding rowOf recordsIn
 returns-2 c = rw (c .before .match .keys2) (c .infrared-row .ensures)
 
 returns-3 : tie.Need-returns-3
-unfolding rowOf recordsIn
-returns-3 c = rw (c .before .match .keys3) (c .infrared-row2 .ensures)
+unfolding rowOf
+returns-3 c = rw (c .before .before .match .keys3) (c .infrared-row2 .ensures ∙ ap infraredRow (c .before .records-in-2 .ensures))
 
 returns-4 : tie.Need-returns-4
 unfolding rowOf
@@ -61,6 +64,7 @@ row-of-spec =
     (tie.spec
     fixed-row-requires
     infrared-row-requires
+    records-in-2-requires
     infrared-row-requires-2
     last-row-requires
     visible-row-requires
