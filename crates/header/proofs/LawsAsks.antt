@@ -45,7 +45,7 @@ none-asks h n =
       count = omega (arith, k .enough);
       version = refl;
       known = k .version;
-      suits = takes-suits (record { sized = k .size; counted = k .counted });
+      suits = takes-suits (k .version) (record { sized = k .size; counted = k .counted });
     }
 
 module _ {h : List ℕ} {b v w C : ℕ} (a : Asks h b v w C) where

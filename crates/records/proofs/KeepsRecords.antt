@@ -13,6 +13,7 @@ use lib.Seq.{take-add}
 use Rattle.ground.proofs.LawsChoice.{no}
 use Rattle.ground.proofs.LawsGrounds.{accepts, refuses, reads-number, exactly}
 use Rattle.row.specs.Rows.{recordsIn}
+use Rattle.row.proofs.LawsRow.{before-3}
 use Rattle.header.specs.Says.{wordsIn}
 use Rattle.header.specs.Plans.{planOf}
 use Rattle.header.proofs.LawsThen.{others-decide}
@@ -66,7 +67,8 @@ pub records-long : RecordsLong
 unfolding recordsIn
 records-long = record {
   first = λ h v n a. length-by h a ∙ omega arith;
-  second = λ h v n a. length-by h a ∙ omega arith;
+  second = λ h v n l a. length-by h a ∙ ap (λ (m : ℕ). 3 * (16 + n) / m) (sym (before-3 v l)) ∙ omega arith;
+  second3 = λ h n a. length-by h a ∙ omega arith;
   others = λ h b v n l u a. length-by h a ∙ ap (λ (m : ℕ). (16 + 4 * n) / m) (one-record b v l u) ∙ div-one _;
 }
 

@@ -12,9 +12,9 @@ use Rattle.ground.proofs.LawsChoice.{yes, no, either}
 use Rattle.ground.proofs.LawsTests.{neither}
 use Rattle.ground.proofs.LawsGrounds.{none-first, first-none, none-split, accepts, refuses}
 use Rattle.row.specs.Rows.{recordsIn}
-use Rattle.row.specs.Suits.{Suits, zeroth, first, second, others, last6, last8, last10}
+use Rattle.row.specs.Suits.{Suits, zeroth, first, second, second3, others, last6, last8, last10}
 use Rattle.row.specs.declared.Row.{Row}
-use Rattle.row.proofs.LawsRow.{row-others, row-records}
+use Rattle.row.proofs.LawsRow.{row-others, row-records, before-3}
 use Rattle.header.specs.Says.{blockIn, versionIn, sizeIn, wordsIn}
 use Rattle.header.specs.Asks.{Asks}
 use Rattle.header.specs.Plans.{planGrounds, planOf}
@@ -35,7 +35,9 @@ pub shared : {b v w C : ℕ} → Suits b v w C → 0 < recordsIn b v → (record
 unfolding recordsIn
 shared zeroth h = absurd (omega arith)
 shared (first {n = n} s) h = (omega arith, omega (arith, s .narrow))
-shared (second {n = n} s) h = (omega arith, omega (arith, s .narrow))
+shared (second {v = v} {n = n} l s) h =
+    subst (λ (r : ℕ). (r * (3 * (16 + n) / r) ≡ 3 * (16 + n)) × (16 < 3 * (16 + n) / r)) (before-3 v l) (omega arith, omega (arith, s .narrow))
+shared (second3 {n = n} s) h = (omega arith, omega (arith, s .narrow))
 shared (others {b = b} {v = v} {n = n} l u s) h =
     let whole : (16 + 4 * n) / recordsIn b v ≡ 16 + 4 * n = ap (λ (m : ℕ). (16 + 4 * n) / m) (one-record b v l u) ∙ div-one _ in
     (ap₂ (λ (m k : ℕ). m * k) (one-record b v l u) whole ∙ one-mul _, omega (arith, whole, s .narrow))

@@ -31,10 +31,12 @@ pub record Finds : Type 0 where
   pub some : (header : List ℕ) (k words : ℕ) → partOf header k words .number ≡ 0 → 16 < partOf header k words .length
   pub empty : (header : List ℕ) (k words : ℕ) → (partOf header k words .number ≡ 0 → ⊥) → partOf header k words ≡ refusedPart (partOf header k words .number)
 
--- A record begins with 16 words of line documentation. Its detector words follow, n of them, or 4n in blocks 3 to 10.
+-- A record begins with 16 words of line documentation. Its detector words follow, n of them, or 4n in blocks 3 to 10. In block 2 the
+-- version decides of how many records the count is: of three up to version 2, of four in version 3.
 pub record RecordsLong : Type 0 where
   pub first : (header : List ℕ) (v n : ℕ) → Asks header 1 v 10 (4 * (16 + n)) → recordLength header ≡ 16 + n
-  pub second : (header : List ℕ) (v n : ℕ) → Asks header 2 v 10 (3 * (16 + n)) → recordLength header ≡ 16 + n
+  pub second : (header : List ℕ) (v n : ℕ) → v ≤ 2 → Asks header 2 v 10 (3 * (16 + n)) → recordLength header ≡ 16 + n
+  pub second3 : (header : List ℕ) (n : ℕ) → Asks header 2 3 10 (4 * (16 + n)) → recordLength header ≡ 16 + n
   pub others : (header : List ℕ) (b v n : ℕ) → 3 ≤ b → b ≤ 10 → Asks header b v 10 (16 + 4 * n) → recordLength header ≡ 16 + 4 * n
 
 -- The records one after another are the C words, all of them and no more.
