@@ -8,18 +8,18 @@ use native.Mathlib.Omega.{arith}
 use lib.Dec.{T, eqb, eqb→eq}
 use borrow.Author.Tests.{le-ltb}
 use Rattle.row.specs.Rows as rows
-use Rattle.placement.specs.Placement.{heldIn, recordsHeld, placeOf}
+use Rattle.placement.specs.Placement.{groupOf, heldIn, recordsHeld, placeOf}
 use Rattle.placement.specs.Promises.{Counts, Refuses13, EveryVersion}
 use Rattle.placement.proofs.LawsBelow.{below, below-at}
 use Rattle.placement.proofs.LawsPlacement.{zero-or-above, absent, present}
 
 -- a test at every block and version
-tested : (p : ℕ → ℕ → Bool) → T (below 12 (λ b. below 4 (p b))) → (block version : ℕ) → block ≤ 11 → version ≤ 3 → T (p block version)
+pub tested : (p : ℕ → ℕ → Bool) → T (below 12 (λ b. below 4 (p b))) → (block version : ℕ) → block ≤ 11 → version ≤ 3 → T (p block version)
 tested p t block version hb hv =
     below-at 4 (p block) (below-at 12 (λ b. below 4 (p b)) t block (omega arith)) version (omega arith)
 
 pub counts : Counts
-unfolding recordsHeld heldIn rows.recordsIn
+unfolding recordsHeld heldIn groupOf rows.recordsIn
 counts block version hb hv =
     eqb→eq (recordsHeld block version) (rows.recordsIn block version) (tested (λ b v. eqb (recordsHeld b v) (rows.recordsIn b v)) tt block version hb hv)
 

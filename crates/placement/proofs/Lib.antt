@@ -1,4 +1,5 @@
 pub mod KeepsPlacement
+pub mod KeepsOnce
 pub mod LawsBelow
 pub mod LawsPlacement
 pub mod LawsRecords

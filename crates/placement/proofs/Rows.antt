@@ -11,8 +11,8 @@ use lib.ListN.{getD, take}
 use Rattle.ground.proofs.LawsTests.{T-first, T-second}
 use Rattle.placement.specs.declared.Held.{Held}
 use Rattle.placement.specs.declared.Placed.{Placed}
-use Rattle.placement.specs.Placement.{_det_, visibleHeld, heldIn, recordsHeld, placeOf}
-use Rattle.placement.specs.Table.{groupOf, namedBy}
+use Rattle.placement.specs.Placement.{_det_, early, middle, late, visibleHeld, groupOf, heldIn, recordsHeld, placeOf}
+use Rattle.placement.specs.Table.{namedBy}
 use Rattle.placement.proofs.LawsBelow.{below, below-at}
 
 abbrev same : Placed → Placed → Bool
@@ -30,13 +30,13 @@ same-eq p q t =
 abbrev filled : List Held → List Held
 filled held = take 4 (held ++ (0 det 0 ∷ []))
 
--- blocks 1 and 2 of a version
-abbrev group : ℕ → List (List Held)
-group version = filled (heldIn 1 version) ∷ filled (heldIn 2 version) ∷ []
+-- blocks 1 and 2 of a group of versions
+abbrev group : (ℕ → List Held) → List (List Held)
+group held = filled (held 1) ∷ filled (held 2) ∷ []
 
--- the table of blocks 1 and 2 by version group, block and record, these two counted from 0; a group's first version stands for it
+-- the table of blocks 1 and 2 by version group, block and record, these two counted from 0
 abbrev pub entry : ℕ → ℕ → ℕ → Held
-entry g b k = getD (getD (getD (group 0 ∷ group 2 ∷ group 3 ∷ []) g []) b []) k (0 det 0)
+entry g b k = getD (getD (getD (group early ∷ group middle ∷ group late ∷ []) g []) b []) k (0 det 0)
 
 abbrev right : ℕ → ℕ → ℕ → Bool
 right version b k = same (namedBy (entry (groupOf version) b k)) (placeOf (b + 1) version (k + 1))

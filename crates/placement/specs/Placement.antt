@@ -22,11 +22,21 @@ early block =
     pick (eqb block 1) (4 det 1 ∷ 4 det 2 ∷ 5 det 1 ∷ 5 det 2 ∷ [])
     (pick (eqb block 2) (2 det 1 ∷ 2 det 2 ∷ 3 det 1 ∷ []) [])
 
--- Versions 2 and 3: 2/1, 2/2, 3/1, 3/2 in block 1, and 4/1, 4/2, 6/1 in block 2.
+-- Version 2: 2/1, 2/2, 3/1, 3/2 in block 1, and 4/1, 4/2, 6/1 in block 2.
+abbrev pub middle : ℕ → List Held
+middle block =
+    pick (eqb block 1) (2 det 1 ∷ 2 det 2 ∷ 3 det 1 ∷ 3 det 2 ∷ [])
+    (pick (eqb block 2) (4 det 1 ∷ 4 det 2 ∷ 6 det 1 ∷ []) [])
+
+-- Version 3: the same in block 1, and 4/1, 4/2, 6/1, 6/2 in block 2.
 abbrev pub late : ℕ → List Held
 late block =
     pick (eqb block 1) (2 det 1 ∷ 2 det 2 ∷ 3 det 1 ∷ 3 det 2 ∷ [])
-    (pick (eqb block 2) (4 det 1 ∷ 4 det 2 ∷ 6 det 1 ∷ []) [])
+    (pick (eqb block 2) (4 det 1 ∷ 4 det 2 ∷ 6 det 1 ∷ 6 det 2 ∷ []) [])
+
+-- So there are three groups of versions: 0 and 1; 2; 3.
+unfoldable pub groupOf : ℕ → ℕ
+groupOf version = pick (ltb version 2) 0 (pick (ltb version 3) 1 2)
 
 -- All versions: 1/5, 1/6, 1/7, 1/8, 1/1, 1/2, 1/3, 1/4 in blocks 3 to 10, one a block.
 abbrev pub visibleHeld : List Held
@@ -37,7 +47,8 @@ visible block = take 1 (drop (block - 3) visibleHeld)
 
 -- What the records of a block hold, in their order; blocks 0 and 11 have none.
 unfoldable pub heldIn : ℕ → ℕ → List Held
-heldIn block version = pick (ltb block 3) (pick (ltb version 2) (early block) (late block)) (visible block)
+heldIn block version =
+    pick (ltb block 3) (getD (early block ∷ middle block ∷ late block ∷ []) (groupOf version) []) (visible block)
 
 unfoldable pub recordsHeld : ℕ → ℕ → ℕ
 recordsHeld block version = length (heldIn block version)

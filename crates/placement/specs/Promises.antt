@@ -1,5 +1,5 @@
--- What the placement promises beside its answers: how many records a block has, and where a record is refused. The proofs are in
--- proofs/KeepsPlacement.antt.
+-- What the placement promises beside its answers: how many records a block has, where a record is refused, and that none holds what another
+-- does. The proofs are in proofs/KeepsPlacement.antt and proofs/KeepsOnce.antt.
 -- Assumes nothing.
 use Prim.Native.Nat.{ℕ, _≤_, _<_}
 use mathlib.Core.Path.{_≡_}
@@ -21,3 +21,10 @@ Refuses13 =
 abbrev pub EveryVersion : Type 0
 EveryVersion =
     (block version k : ℕ) → 3 ≤ block → block ≤ 11 → version ≤ 3 → placeOf block version k ≡ placeOf block 0 k
+
+-- Two records of a version that hold the same detector of the same channel are one.
+abbrev pub HeldOnce : Type 0
+HeldOnce =
+    (version b k c l : ℕ) → placeOf b version k .number ≡ 0 → placeOf c version l .number ≡ 0
+    → placeOf b version k .channel ≡ placeOf c version l .channel → placeOf b version k .detector ≡ placeOf c version l .detector
+    → (b ≡ c) × (k ≡ l)

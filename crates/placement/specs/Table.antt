@@ -1,15 +1,10 @@
--- How the code's tables are read: the group of a version, and what an entry says.
+-- How the code's tables are read: what an entry says.
 -- Assumes nothing.
-use Prim.Native.Nat.{ℕ}
-use lib.Dec.{eqb, ltb}
+use lib.Dec.{eqb}
 use Rattle.ground.specs.Choice.{pick}
 use Rattle.placement.specs.declared.Held.{Held}
 use Rattle.placement.specs.declared.Placed.{Placed}
 use Rattle.placement.specs.Placement.{accepted, refusedBy}
-
--- versions 0 and 1; 2; 3
-unfoldable pub groupOf : ℕ → ℕ
-groupOf version = pick (ltb version 2) 0 (pick (eqb version 2) 1 2)
 
 -- 0/0 is no record, and no channel is 0
 unfoldable pub namedBy : Held → Placed

@@ -4,8 +4,8 @@
 ghost use mathlib.Core.Path.{_≡_};
 ghost use Prim.Native.Nat.{_<_, _≤_};
 ghost use Rattle.row.specs.Rows.{lastVersion};
-ghost use Rattle.placement.specs.Placement.{placeOf, refusedBy};
-ghost use Rattle.placement.specs.Table.{groupOf, namedBy};
+ghost use Rattle.placement.specs.Placement.{groupOf, placeOf, refusedBy};
+ghost use Rattle.placement.specs.Table.{namedBy};
 
 // What a record holds; on a refusal its number, and zeros.
 pub struct Placed {
@@ -24,7 +24,7 @@ const FIRST_VISIBLE: u8 = 3;
 // Records that the table has room for in an infrared block.
 const MOST_RECORDS: u8 = 4;
 
-// Blocks 1 and 2 by version group. Version 3 is a group of its own, so far like that of version 2.
+// Blocks 1 and 2 by version group. Version 3 has the eighth infrared detector, 6/2.
 const HELD: [[[Held; 4]; 2]; 3] = [
     // Versions 0, 1.
     [
@@ -39,7 +39,7 @@ const HELD: [[[Held; 4]; 2]; 3] = [
     // Version 3.
     [
         [Held(2, 1), Held(2, 2), Held(3, 1), Held(3, 2)],
-        [Held(4, 1), Held(4, 2), Held(6, 1), Held(0, 0)],
+        [Held(4, 1), Held(4, 2), Held(6, 1), Held(6, 2)],
     ],
 ];
 

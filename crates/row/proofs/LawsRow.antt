@@ -122,7 +122,7 @@ suits-takes (second {v} {n} l s) =
     record {
       sized = refl;
       counted = subst (λ (r : ℕ). permits (infraredRow r) (3 * (16 + n)) ≡ true) (before-3 v l)
-      (wide-permits (infraredRow 3) (3 * (16 + n)) (lit< tt) (record { pixels = n; scan = s; counted = omega arith }));
+          (wide-permits (infraredRow 3) (3 * (16 + n)) (lit< tt) (record { pixels = n; scan = s; counted = omega arith }));
     }
 suits-takes (second3 {n = n} s) = record { sized = refl; counted = wide-permits (infraredRow 4) (4 * (16 + n)) (lit< tt) (record { pixels = n; scan = s; counted = omega arith }) }
 suits-takes (others {b} {v} {n} l h s) =

@@ -5,7 +5,7 @@ use mathlib.Core.Path.{sym, _∙_}
 use Prim.Native.Nat.{_≤_}
 use native.Mathlib.Omega.{arith}
 use borrow.Author.Needs.{needs}
-use Rattle.placement.specs.Placement.{heldIn, recordsHeld}
+use Rattle.placement.specs.Placement.{recordsHeld}
 use Rattle.placement.proofs.LawsPlacement.{absent}
 use Rattle.placement.proofs.LawsRecords.{at-most-four}
 use Rattle.placement.proofs.Rows.{infrared-rule}
@@ -61,7 +61,6 @@ named-requires : tie.Need-named-requires
 named-requires c κs = search needs
 
 returns-3 : tie.Need-returns-3
-unfolding heldIn
 returns-3 c =
     let a = c .before .before .before .before .before .args in
     c .named .ensures ∙ infrared-rule (a .block) (a .version) (a .«record») (omega arith) (c .before .before .group-of .ensures .0)
