@@ -13,8 +13,8 @@ use borrow.Author.Tests.{eq-eqb, ltb-true, ltb-false, lt-ltb, eqb-true, eqb-fals
 use Rattle.ground.specs.Choice.{pick}
 use Rattle.ground.proofs.LawsChoice.{yes, no}
 use Rattle.ground.proofs.LawsTests.{never}
-use Rattle.row.specs.Rows.{recordsIn, lastBlock}
-use Rattle.row.proofs.LawsRow.{row-records}
+use Rattle.row.specs.Rows.{lastBlock}
+use Rattle.row.proofs.LawsRow.{row-records, records-few}
 use Rattle.header.specs.Says.{blockIn, versionIn, sizeIn}
 use Rattle.bits.specs.Fields.{badSize, takeAnswer, roomTaken, putAnswer, fieldPut}
 use Rattle.records.specs.Records.{recordsOf, noRecord, refusedPart, partOf}
@@ -109,18 +109,8 @@ module _ (block version k : ℕ) where
 pub place-cut : (block version k : ℕ) → placeOf (upTo 255 block) (upTo 255 version) (upTo 255 k) ≡ placeOf block version k
 place-cut block version k = block-cut block (upTo 255 version) (upTo 255 k) ∙ version-cut block version (upTo 255 k) ∙ record-cut block version k
 
-few : (t u v : Bool) → pick t 4 (pick u 3 (pick v 1 0)) ≤ 4
-few true u v = omega arith
-few false true v = omega arith
-few false false true = omega arith
-few false false false = omega arith
-
-few-in : (b v : ℕ) → recordsIn b v ≤ 4
-unfolding recordsIn
-few-in b v = few (eqb b 1) (eqb b 2) (leb 3 b && leb b 10)
-
 few-records : (h : List ℕ) → recordsOf h ≤ 4
-few-records h = subst (λ (n : ℕ). n ≤ 4) (sym (row-records (blockIn h) (versionIn h) (sizeIn h))) (few-in (blockIn h) (versionIn h))
+few-records h = subst (λ (n : ℕ). n ≤ 4) (sym (row-records (blockIn h) (versionIn h) (sizeIn h))) (records-few (blockIn h) (versionIn h))
 
 module _ (h : List ℕ) (lent : ℕ) where
   no-such : (n : ℕ) → 4 < n → noRecord h n ≡ true

@@ -14,7 +14,7 @@ use Rattle.placement.proofs.LawsBelow.{below, below-at}
 use Rattle.placement.proofs.LawsPlacement.{zero-or-above, absent, present}
 
 -- a test at every block and version
-pub tested : (p : ℕ → ℕ → Bool) → T (below 12 (λ b. below 4 (p b))) → (block version : ℕ) → block ≤ 11 → version ≤ 3 → T (p block version)
+tested : (p : ℕ → ℕ → Bool) → T (below 12 (λ b. below 4 (p b))) → (block version : ℕ) → block ≤ 11 → version ≤ 3 → T (p block version)
 tested p t block version hb hv =
     below-at 4 (p block) (below-at 12 (λ b. below 4 (p b)) t block (omega arith)) version (omega arith)
 

@@ -4,17 +4,15 @@ use mathlib.Core.Path.{_≡_, ap, _∙_}
 use mathlib.Core.Logic.{⊎-elim}
 use Prim.Native.Nat.{ℕ, _≤_}
 use native.Mathlib.Omega.{arith}
-use lib.Dec.{leb, leb→le}
 use borrow.Author.Tests.{le-leb, ne-eqb}
 use Rattle.row.specs.Rows as rows
+use Rattle.row.proofs.LawsRow.{records-few}
 use Rattle.placement.specs.Placement.{recordsHeld}
-use Rattle.placement.proofs.KeepsPlacement.{tested, counts}
+use Rattle.placement.proofs.KeepsPlacement.{counts}
 use Rattle.placement.proofs.LawsPlacement.{zero-or-above}
 
 pub at-most-four : (block version : ℕ) → block ≤ 11 → version ≤ 3 → recordsHeld block version ≤ 4
-unfolding rows.recordsIn
-at-most-four block version hb hv =
-    omega (arith, counts block version hb hv, leb→le (rows.recordsIn block version) 4 (tested (λ b v. leb (rows.recordsIn b v) 4) tt block version hb hv))
+at-most-four block version hb hv = omega (arith, counts block version hb hv, records-few block version)
 
 pub one-record : (block : ℕ) → 3 ≤ block → block ≤ 10 → recordsHeld block 0 ≡ 1
 unfolding rows.recordsIn

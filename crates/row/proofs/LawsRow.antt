@@ -4,7 +4,7 @@ use Prim.Native.Nat.{ℕ, _+_, _*_, _<_, _≤_}
 use mathlib.Core.Path.{_≡_, refl, sym, ap, _∙_, subst}
 use mathlib.Core.Bool.{Bool, true, false, _&&_}
 use native.Mathlib.Omega.{arith}
-use lib.Dec.{lit<, eqb, leb, ltb}
+use lib.Dec.{lit<, lit≤, eqb, leb, ltb}
 use lib.Arith.{lt-of-le-ne}
 use borrow.Author.Tests.{leb-true, leb-false, eqb-true, eqb-false, ltb-true, ltb-false, ne-eqb, le-leb, lt-leb, le-ltb, lt-ltb}
 use Rattle.ground.proofs.LawsChoice.{yes, no, either}
@@ -72,6 +72,14 @@ pub second-cases : (P : ℕ → Type 0) (v : ℕ) → (v ≤ 2 → P 3) → (3 �
 unfolding recordsIn
 second-cases P v before from = either P (ltb v 3) (λ e. before (omega (arith, ltb-true v 3 e))) (λ e. from (ltb-false v 3 e))
 
+-- no block has more than four
+pub records-few : (b v : ℕ) → recordsIn b v ≤ 4
+unfolding recordsIn
+records-few b v =
+    either (λ (n : ℕ). n ≤ 4) (eqb b 1) (λ _. lit≤ tt) (λ _.
+    either (λ (n : ℕ). n ≤ 4) (eqb b 2) (λ _. either (λ (n : ℕ). n ≤ 4) (ltb v 3) (λ _. lit≤ tt) (λ _. lit≤ tt)) (λ _.
+    either (λ (n : ℕ). n ≤ 4) (leb 3 b && leb b 10) (λ _. lit≤ tt) (λ _. lit≤ tt)))
+
 -- the records of a row are those of its block number
 records-others : (b v : ℕ) → 3 ≤ b → b ≤ 10 → 1 ≡ recordsIn b v
 unfolding recordsIn
@@ -92,7 +100,7 @@ row-records b v w =
 at : {b w n b′ w′ n′ : ℕ} {v : ℕ} → b ≡ b′ → w ≡ w′ → n ≡ n′ → Suits b′ v w′ n′ → Suits b v w n
 at {b} {w} {n} {b′} {w′} {n′} {v} e f g s = subst (λ (x : ℕ). Suits x v w n) (sym e) (subst (λ (x : ℕ). Suits b′ v x n) (sym f) (subst (λ (x : ℕ). Suits b′ v w′ x) (sym g) s))
 
-in-3 : {n : ℕ} (v : ℕ) → v ≤ 3 → 3 ≤ v → Scan n → Suits 2 v 10 (4 * (16 + n))
+pub in-3 : {n : ℕ} (v : ℕ) → v ≤ 3 → 3 ≤ v → Scan n → Suits 2 v 10 (4 * (16 + n))
 in-3 {n} v h l s = subst (λ (x : ℕ). Suits 2 x 10 (4 * (16 + n))) (omega arith) (second3 s)
 
 sized-suits : (b v w n : ℕ) → v ≤ 3 → rowOf b v w .size ≡ w → permits (rowOf b v w) n ≡ true → Suits b v w n

@@ -14,10 +14,10 @@ use Rattle.header.proofs.LawsAsks.{asked-block, asked-words}
 use Rattle.header.proofs.KeepsHeader.{grants-asked}
 use Rattle.records.specs.Records.{recordsOf, recordLength, joinedTo}
 use Rattle.records.proofs.KeepsRecords.{finds, joins-to-words, evenly-shared}
-use Rattle.placement.specs.Placement.{recordsHeld, heldIn, placeOf}
+use Rattle.placement.specs.Placement.{groupOf, heldIn, recordsHeld, placeOf}
 use Rattle.placement.proofs.KeepsPlacement.{every-version}
 use Rattle.scope.specs.Blocks.{Asked}
-use Rattle.scope.specs.Records.{RecordsIn, zeroth, first, second, others, last, Planned, Located, _det_, Holds, Placed}
+use Rattle.scope.specs.Records.{RecordsIn, zeroth, first, second, second3, others, last, Planned, Located, _det_, Holds, Placed}
 use Rattle.scope.proofs.LawsFormat.{bits-field, asked-asks}
 use Rattle.scope.proofs.KeepsRefusals.{records-are}
 
@@ -45,7 +45,8 @@ module _ {h : List ℕ} (a : Asked h) {r : ℕ} (i : RecordsIn (a .block) (a .ve
 as-long : {b v r x y : ℕ} → RecordsIn b v r → 0 < r → r * x ≡ r * y → x ≡ y
 as-long zeroth l e = absurd (omega arith)
 as-long first l e = omega arith
-as-long second l e = omega arith
+as-long (second _) l e = omega arith
+as-long second3 l e = omega arith
 as-long (others _ _) l e = omega arith
 as-long last l e = absurd (omega arith)
 
@@ -69,11 +70,11 @@ located =
 -- ---- placement
 
 -- a fact of each number below n
-abbrev Each : ℕ → (ℕ → Type 0) → Type 0
+abbrev pub Each : ℕ → (ℕ → Type 0) → Type 0
 Each zero P = Unit {0}
 Each (suc n) P = P 0 × Each n (λ k. P (suc k))
 
-below : (n : ℕ) (P : ℕ → Type 0) → Each n P → (k : ℕ) → k < n → P k
+pub below : (n : ℕ) (P : ℕ → Type 0) → Each n P → (k : ℕ) → k < n → P k
 below zero P e k l = absurd (omega arith)
 below (suc n) P e zero l = e .0
 below (suc n) P e (suc k) l = below n (λ j. P (suc j)) (e .1) k (omega arith)
@@ -85,13 +86,14 @@ abbrev visibleAt : ℕ → Type 0
 visibleAt i = placeOf (3 + i) 0 1 ≡ record { number = 0; channel = 1; detector = getD (5 ∷ 6 ∷ 7 ∷ 8 ∷ 1 ∷ 2 ∷ 3 ∷ 4 ∷ []) i 0 }
 
 pub placed : Placed
-unfolding placeOf heldIn recordsHeld
+unfolding placeOf heldIn groupOf recordsHeld
 placed =
     record {
       early1 = λ v l. below 2 (λ v. Holds 1 v (4 det 1 ∷ 4 det 2 ∷ 5 det 1 ∷ 5 det 2 ∷ [])) (below 4 _ (refl, (refl, (refl, (refl, tt)))), (below 4 _ (refl, (refl, (refl, (refl, tt)))), tt)) v (omega arith);
       early2 = λ v l. below 2 (λ v. Holds 2 v (2 det 1 ∷ 2 det 2 ∷ 3 det 1 ∷ [])) (below 3 _ (refl, (refl, (refl, tt))), (below 3 _ (refl, (refl, (refl, tt))), tt)) v (omega arith);
       late1 = of-late (λ v. Holds 1 v (2 det 1 ∷ 2 det 2 ∷ 3 det 1 ∷ 3 det 2 ∷ [])) (below 4 _ (refl, (refl, (refl, (refl, tt))))) (below 4 _ (refl, (refl, (refl, (refl, tt)))));
-      late2 = of-late (λ v. Holds 2 v (4 det 1 ∷ 4 det 2 ∷ 6 det 1 ∷ [])) (below 3 _ (refl, (refl, (refl, tt)))) (below 3 _ (refl, (refl, (refl, tt))));
+      late2 = below 3 _ (refl, (refl, (refl, tt)));
+      late3 = below 4 _ (refl, (refl, (refl, (refl, tt))));
       visible =
           λ i v l m.
           let seen = below 8 visibleAt (refl, (refl, (refl, (refl, (refl, (refl, (refl, (refl, tt)))))))) i l in

@@ -18,7 +18,7 @@ use Rattle.bits.specs.Fields.{allFit}
 use Rattle.bits.proofs.LawsBelow.{below-at}
 use Rattle.bits.proofs.LawsFill.{fit-below}
 use Rattle.row.specs.Rows.{recordsIn}
-use Rattle.row.proofs.LawsRow.{row-records}
+use Rattle.row.proofs.LawsRow.{row-records, before-3, second-cases}
 use Rattle.header.specs.Says.{blockIn, sizeIn, wordsIn, versionIn, bytesIn}
 use Rattle.copies.specs.Copies.{copiesGrounds, headerIn}
 use Rattle.header.specs.Plans.{headerGrounds, planGrounds}
@@ -40,7 +40,7 @@ use Rattle.placement.specs.Placement.{recordsHeld, noRecord, groundOf, refusedB
 use Rattle.placement.proofs.KeepsPlacement.{counts}
 use Rattle.scope.specs.Notions.{Reason, FirstOf}
 use Rattle.scope.specs.Blocks.{Asked}
-use Rattle.scope.specs.Records.{RecordsIn, zeroth, first, second, others, last}
+use Rattle.scope.specs.Records.{RecordsIn, zeroth, first, second, second3, others, last}
 use Rattle.scope.specs.Refusals.{headerReasons, planReasons, Said, copiesReasons, fieldReasons, readerReasons, wordReasons, recordReasons, placeReasons, Numbers, Refusals}
 use Rattle.scope.proofs.LawsReasons.{Tells, told-as, tells-eq, tells-less, tells-not, tells-either, AllTell, first-reason, tell-joined}
 use Rattle.scope.proofs.LawsFormat.{asked-asks, asked-field, asks-asked}
@@ -114,13 +114,14 @@ pub records-are : {b v r : ℕ} → RecordsIn b v r → recordsIn b v ≡ r
 unfolding recordsIn
 records-are zeroth = refl
 records-are first = refl
-records-are second = refl
+records-are (second {v} l) = sym (before-3 v l)
+records-are second3 = refl
 records-are (others {b} {v} l h) = one-record b v l h
 records-are last = refl
 
-records-in : (b v : ℕ) → b ≤ 11 → RecordsIn b v (recordsIn b v)
+records-in : (b v : ℕ) → b ≤ 11 → v ≤ 3 → RecordsIn b v (recordsIn b v)
 unfolding recordsIn
-records-in b v h = go (eqb b 0) (eqb b 1) (eqb b 2) (eqb b 11) refl refl refl refl
+records-in b v h known = go (eqb b 0) (eqb b 1) (eqb b 2) (eqb b 11) refl refl refl refl
   where
     at : {k : ℕ} → eqb b k ≡ true → RecordsIn k v (recordsIn k v) → RecordsIn b v (recordsIn b v)
     at {k} e x = subst (λ (c : ℕ). RecordsIn c v (recordsIn c v)) (sym (eqb-true b k e)) x
@@ -128,7 +129,7 @@ records-in b v h = go (eqb b 0) (eqb b 1) (eqb b 2) (eqb b 11) refl refl refl re
     go : (t u w x : Bool) → eqb b 0 ≡ t → eqb b 1 ≡ u → eqb b 2 ≡ w → eqb b 11 ≡ x → RecordsIn b v (recordsIn b v)
     go true u w x e f g k = at e zeroth
     go false true w x e f g k = at f first
-    go false false true x e f g k = at g second
+    go false false true x e f g k = at g (second-cases (RecordsIn 2 v) v second (λ l. subst (λ (w : ℕ). RecordsIn 2 w 4) (omega arith) second3))
     go false false false true e f g k = at k last
     go false false false false e f g k =
         let n0 = eqb-false b 0 e in
@@ -140,11 +141,11 @@ records-in b v h = go (eqb b 0) (eqb b 1) (eqb b 2) (eqb b 11) refl refl refl re
         subst (RecordsIn b v) (sym (one-record b v l m)) (others l m)
 
 -- none such: the record is 0 or above the number that the block has
-tells-record : (k r b v : ℕ) → r ≡ recordsIn b v → b ≤ 11 → Tells (eqb k 0 || ltb r k) ((n : ℕ) × RecordsIn b v n × ((k ≡ 0) ⊎ (n < k)))
-tells-record k r b v e l =
+tells-record : (k r b v : ℕ) → r ≡ recordsIn b v → b ≤ 11 → v ≤ 3 → Tells (eqb k 0 || ltb r k) ((n : ℕ) × RecordsIn b v n × ((k ≡ 0) ⊎ (n < k)))
+tells-record k r b v e l known =
     let t = tells-either (tells-eq k 0) (tells-less r k) in
     record {
-      yes = λ y. (r, subst (RecordsIn b v) (sym e) (records-in b v l), t .yes y);
+      yes = λ y. (r, subst (RecordsIn b v) (sym e) (records-in b v l known), t .yes y);
       no = λ n p. t .no n (subst (λ (m : ℕ). (k ≡ 0) ⊎ (m < k)) (sym (records-are (p .1)) ∙ sym e) (p .2));
     }
 
@@ -152,7 +153,7 @@ module _ (h : List ℕ) (k lent : ℕ) (ask : Asked h) where
   record-missing : (a : Asked h) → Tells (eqb k 0 || ltb (recordsOf h) k) ((r : ℕ) × RecordsIn (a .block) (a .version) r × ((k ≡ 0) ⊎ (r < k)))
   record-missing a =
       tells-record k (recordsOf h) (a .block) (a .version)
-      (row-records (blockIn h) (versionIn h) (sizeIn h) ∙ (λ i. recordsIn (asked-block (asked-asks a) i) (a .versioned i))) (is-known (a .id))
+      (row-records (blockIn h) (versionIn h) (sizeIn h) ∙ (λ i. recordsIn (asked-block (asked-asks a) i) (a .versioned i))) (is-known (a .id)) (a .known)
 
   record-tells : AllTell (recordGrounds h k lent) (recordReasons h k lent)
   record-tells = (
@@ -175,7 +176,7 @@ place-tells b v k = (
     refl,
     tells-less 3 v,
     λ ev _.
-        (refl, tells-record k (recordsHeld b v) b v (counts b v (ltb-false 11 b eb) (ltb-false 3 v ev)) (ltb-false 11 b eb), λ _ _. tt),
+        (refl, tells-record k (recordsHeld b v) b v (counts b v (ltb-false 11 b eb) (ltb-false 3 v ev)) (ltb-false 11 b eb) (ltb-false 3 v ev), λ _ _. tt),
   ),
 )
 

@@ -21,7 +21,7 @@ use Rattle.check_rule.specs.Finds.{Passes}
 use Rattle.check_rule.proofs.LawsPasses.{passes-true, true-passes}
 use Rattle.row.specs.Rows.{rowOf, permits}
 use Rattle.row.specs.Suits.{Scan, Suits, zeroth, first, second, others, last6, last8, last10}
-use Rattle.row.proofs.LawsRow.{row-cases, suits-takes}
+use Rattle.row.proofs.LawsRow.{row-cases, second-cases, in-3, suits-takes}
 use Rattle.header.specs.Says.{blockIn, sizeIn, countIn, wordsIn, versionIn, rowIn, bytesIn}
 use Rattle.copies.specs.Copies.{copyAt, sameAs, differ, noCopyPasses, copiesDiffer, copiesGrounds, headerIn}
 use Rattle.header.specs.Plans.{unknownBlock, unknownVersion, wrongSize, wrongCount, headerGrounds}
@@ -45,13 +45,13 @@ at : {b c w x v C : ℕ} → b ≡ c → x ≡ w → Suits c v x C → Suits b v
 at {b} {c} {w} {x} {v} {C} e f s = subst (λ (y : ℕ). Suits y v w C) (sym e) (subst (λ (y : ℕ). Suits c v y C) f s)
 
 -- a size of the row is that of some count
-size-suits : (b v w : ℕ) → b ≤ 11 → rowOf b v w .size ≡ w → (C : ℕ) × Suits b v w C
-size-suits b v w l =
+size-suits : (b v w : ℕ) → b ≤ 11 → v ≤ 3 → rowOf b v w .size ≡ w → (C : ℕ) × Suits b v w C
+size-suits b v w l known =
     let one : Scan 1 = record { narrow = lit≤ tt; wide = lit≤ tt } in
     row-cases (λ r. r .size ≡ w → (C : ℕ) × Suits b v w C) b v w
     (λ e f. (8040, at e f zeroth))
     (λ e f. (68, at e f (first {n = 1} one)))
-    (λ e f. (51, at e f (second {n = 1} one)))
+    (λ e f. second-cases (λ _. (C : ℕ) × Suits b v w C) v (λ m. (51, at e f (second {n = 1} m one))) (λ m. (68, at e f (in-3 {n = 1} v known m one))))
     (λ k m f. (20, at refl f (others {n = 1} k m one)))
     (λ e _ f. (10720, at e f last6))
     (λ e _ f. (8040, at e f last8))
@@ -73,14 +73,14 @@ module _ (h : List ℕ) where
   tells-version : Tells (unknownVersion h) (3 < word 8 h)
   tells-version = tells-less 3 (versionIn h)
 
-  tells-size : unknownBlock h ≡ false → Tells (wrongSize h) ((b C : ℕ) → IsBlock (word 1 h) b → Suits b (word 8 h) (word 2 h) C → ⊥)
-  tells-size known =
+  tells-size : unknownBlock h ≡ false → unknownVersion h ≡ false → Tells (wrongSize h) ((b C : ℕ) → IsBlock (word 1 h) b → Suits b (word 8 h) (word 2 h) C → ⊥)
+  tells-size block version =
       record {
         yes = λ y b C i s. let e = block-is i in eqb-false (rowIn h .size) (sizeIn h) (not-true (eqb (rowIn h .size) (sizeIn h)) y)
             (ap (λ (x : ℕ). rowOf x (versionIn h) (sizeIn h) .size) e ∙ suits-takes s .sized);
         no = λ n f.
-            let low = ltb-false 11 (blockIn h) known in
-            let some = size-suits (blockIn h) (versionIn h) (sizeIn h) low (eqb-true (rowIn h .size) (sizeIn h) (not-false (eqb (rowIn h .size) (sizeIn h)) n)) in
+            let low = ltb-false 11 (blockIn h) block in
+            let some = size-suits (blockIn h) (versionIn h) (sizeIn h) low (ltb-false 3 (versionIn h) version) (eqb-true (rowIn h .size) (sizeIn h) (not-false (eqb (rowIn h .size) (sizeIn h)) n)) in
             f (blockIn h) (some .0) (number-is (word 1 h) low) (some .1);
       }
 
@@ -108,7 +108,7 @@ module _ (h : List ℕ) where
       told-as (e _) tells-version,
       λ v _. (
         refl,
-        told-as (e _) (tells-size k),
+        told-as (e _) (tells-size k v),
         λ w _.
             (refl, told-as (e _) (tells-count k v w), λ _ _. tt),
       ),

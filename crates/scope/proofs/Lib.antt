@@ -4,6 +4,7 @@ pub mod LawsGrounds
 pub mod KeepsSizes
 pub mod KeepsRefusals
 pub mod KeepsRecords
+pub mod KeepsFourRecords
 pub mod KeepsTags
 pub mod KeepsParity
 pub mod KeepsWatch

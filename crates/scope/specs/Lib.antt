@@ -2,6 +2,7 @@ pub mod Notions
 pub mod Sizes
 pub mod Blocks
 pub mod Records
+pub mod FourRecords
 pub mod Refusals
 pub mod Tags
 pub mod Parity
