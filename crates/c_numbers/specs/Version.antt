@@ -1,7 +1,7 @@
--- The version of the C interface. Each change of a signature, a size or a place in include/rahmisve.h raises it, and each new
--- number of an answer, a verdict or a find, there and here.
+-- The version of the C interface. Each change of a signature, a size or a place in include/rahmisve.h raises it, each new number of an
+-- answer, a verdict or a find, and each change of the rows or the placements of blocks, there and here. 2: four records in block 2.
 -- Assumes nothing.
 use Prim.Native.Nat.{ℕ}
 
 abbrev pub version : ℕ
-version = 1
+version = 2

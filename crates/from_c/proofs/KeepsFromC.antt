@@ -6,7 +6,7 @@ use mathlib.Core.Path.{_≡_, refl, sym, ap, ap₂, _∙_, subst}
 use mathlib.Core.Logic.{_⊎_, inl, inr, ⊎-elim}
 use mathlib.Core.Bool.{Bool, true, false, not, _||_}
 use mathlib.Core.List.{List, [], _∷_, _++_}
-use lib.Dec.{eqb, ltb, leb}
+use lib.Dec.{lit≤, eqb, ltb, leb}
 use lib.ListN.{length, getD, drop, replicate}
 use borrow.Author.Tests.{ltb-true, ltb-false, leb-true, leb-false, eqb-true, eqb-false, eq-eqb, ne-eqb, le-ltb, not-true, not-false}
 use Rattle.ground.specs.Choice.{pick}
@@ -22,6 +22,7 @@ use Rattle.row.specs.Rows.{recordsIn, rowOf, permits}
 use Rattle.row.specs.Field.{fieldBits, fieldBytes}
 use Rattle.header.specs.Says as says
 use Rattle.header.specs.Plans.{planOf}
+use Rattle.records.specs.Records.{partOf}
 use Rattle.placement.specs.Placement.{placeOf}
 use Rattle.placement.proofs.LawsPlacement.{unknown-block}
 use Rattle.block.specs.Answers.{answerOf, roomAfter}
@@ -52,6 +53,7 @@ use Rattle.recording.specs.declared.Found.the-variants.{Whole, Cut, End}
 use Rattle.recording.specs.declared.Line.{Line}
 use Rattle.recording.proofs.LawsLines.{line-seq, seq-next}
 use Rattle.listing.specs.Texts.{digits, decimal as spelled, blockText, firstText, lineText, lastText, putLength}
+use Rattle.scope.proofs.KeepsFourRecords.{four-records}
 use Rattle.c_numbers.specs.Numbers.{upTo}
 use Rattle.c_numbers.specs.Marks as marks
 use Rattle.c_blocks.specs.Copies.{copiesIn}
@@ -314,6 +316,10 @@ plan-3 : planOf (3 ∷ 10 ∷ 0 ∷ 22 ∷ 0 ∷ 0 ∷ 0 ∷ 2 ∷ replicate 20 
 unfolding planOf says.numberOf rowOf permits recordsIn fieldBits fieldBytes
 plan-3 = refl
 
+plan-2 : planOf (2 ∷ 10 ∷ 0 ∷ 86 ∷ 0 ∷ 0 ∷ 0 ∷ 3 ∷ replicate 20 0) ≡ record { number = 0; block = 2; version = 3; size = 10; records = 4; words = 84; bytes = 2680 }
+unfolding planOf says.numberOf rowOf permits recordsIn fieldBits fieldBytes
+plan-2 = refl
+
 keeps : stepOf (watchIn (1 ∷ 3 ∷ 1987 ∷ 234 ∷ 21 ∷ 43 ∷ 56 ∷ 789 ∷ 1 ∷ 5000 ∷ [])) (upTo 255 3) (0x19 ∷ 0x87 ∷ 0x23 ∷ 0x42 ∷ 0x14 ∷ 0x35 ∷ 0x89 ∷ 0x12 ∷ [])
     ≡ stepped (expecting 4 (record { year = 1987; day = 234; hour = 21; minute = 43; second = 58; ms = 912; flywheel = false }) 5000) Kept
 unfolding upTo stepOf refusalOf onGood onOpen inTime digitsOf decimal valueOf tagOf inBounds goodTag timeOf
@@ -334,6 +340,13 @@ text-1 = refl
 pub rows-from-c : RowsFromC
 rows-from-c = record {
   plan = λ _ g x h. let e = x .allowed ∙ ap planOf h ∙ plan-3 in (λ i. e i .number, λ i. (tt, (e i .block, (e i .version, (e i .size, (e i .records, (e i .words, (e i .bytes, tt))))))));
+  plan-84 = λ _ g x h. let e = x .allowed ∙ ap planOf h ∙ plan-2 in (λ i. e i .number, λ i. (tt, (e i .block, (e i .version, (e i .size, (e i .records, (e i .words, (e i .bytes, tt))))))));
+  part-84 = λ _ g x h n k.
+      let e = x .allowed ∙ part-cut (g .0 .now) (g .1 .0) (g .1 .1 .0) ∙ (λ i. partOf (h i) (k i) (n i)) ∙ four-records .four .there 4 (lit≤ tt) (lit≤ tt) in
+      (λ i. e i .number, λ i. (tt, (tt, (tt, (e i .start, (e i .length, tt))))));
+  place = λ _ g x b v k.
+      let e = x .allowed ∙ place-cut (g .0) (g .1 .0) (g .1 .1 .0) ∙ (λ i. placeOf (b i) (v i) (k i)) ∙ four-records .fourth in
+      (λ i. e i .number, λ i. (tt, (tt, (tt, (e i .channel, (e i .detector, tt))))));
   no-place = λ _ g x b.
       let e = x .allowed ∙ place-cut (g .0) (g .1 .0) (g .1 .1 .0) ∙ (λ i. placeOf (b i) (g .1 .0) (g .1 .1 .0)) ∙ unknown-block 256 (g .1 .0) (g .1 .1 .0) (omega arith) in
       (λ i. e i .number, λ i. (tt, (tt, (tt, (e i .channel, (e i .detector, tt))))));

@@ -174,7 +174,7 @@ pub record FromC : Type 0 where
   pub last-text : Every rahmisve_last_text.ended rahmisve_last_text.Reads.Learnt (λ _ (cut, (fields, (room, _))) answer (_, (_, (after, (bytes, _)))).
       Puts (lastText (isOn cut) fields) (now room) answer after bytes)
   -- this interface
-  pub version : Every rahmisve_version.ended rahmisve_version.Reads.Learnt (λ _ _ answer _. answer ≡ 1)
+  pub version : Every rahmisve_version.ended rahmisve_version.Reads.Learnt (λ _ _ answer _. answer ≡ 2)
   -- what a block is made of
   pub check : Every rahmisve_check_word.ended rahmisve_check_word.Reads.Learnt (λ _ (message, _) answer _. answer ≡ checkWord (now message))
   -- 6: a size outside 1 to 16. 8: the field has fewer bits. 9: less room
@@ -191,6 +191,13 @@ pub record RowsFromC : Type 0 where
   -- a header of block 3, version 2, with 20 words
   pub plan : Every rahmisve_plan.ended rahmisve_plan.Reads.Learnt (λ _ (header, _) answer left.
       now header ≡ 3 ∷ 10 ∷ 0 ∷ 22 ∷ 0 ∷ 0 ∷ 0 ∷ 2 ∷ replicate 20 0 → (answer ≡ 0) × (left ≡ (tt, (3, (2, (10, (1, (20, (2680, tt)))))))))
+  -- a header of block 2, version 3, with 84 words: the fourth of its records, and what that holds
+  pub plan-84 : Every rahmisve_plan.ended rahmisve_plan.Reads.Learnt (λ _ (header, _) answer left.
+      now header ≡ 2 ∷ 10 ∷ 0 ∷ 86 ∷ 0 ∷ 0 ∷ 0 ∷ 3 ∷ replicate 20 0 → (answer ≡ 0) × (left ≡ (tt, (2, (3, (10, (4, (84, (2680, tt)))))))))
+  pub part-84 : Every rahmisve_record.ended rahmisve_record.Reads.Learnt (λ _ (header, (count, (k, _))) answer left.
+      now header ≡ 2 ∷ 10 ∷ 0 ∷ 86 ∷ 0 ∷ 0 ∷ 0 ∷ 3 ∷ replicate 20 0 → count ≡ 84 → k ≡ 4 → (answer ≡ 0) × (left ≡ (tt, (tt, (tt, (63, (21, tt)))))))
+  pub place : Every rahmisve_place.ended rahmisve_place.Reads.Learnt (λ _ (block, (version, (k, _))) answer left.
+      block ≡ 2 → version ≡ 3 → k ≡ 4 → (answer ≡ 0) × (left ≡ (tt, (tt, (tt, (6, (2, tt)))))))
   -- there is no block 256
   pub no-place : Every rahmisve_place.ended rahmisve_place.Reads.Learnt (λ _ (block, _) answer left. block ≡ 256 → (answer ≡ 4) × (left ≡ (tt, (tt, (tt, (0, (0, tt)))))))
   -- tag 19 87 A3 42 14 35 67 89 is 1987 day 234, 21:43:56.789, flywheel on
