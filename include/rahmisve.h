@@ -5,8 +5,9 @@
  * needs of a machine; docs/SCOPE.md has the format, which sizes and counts each block has (Field sizes) and the ground of every number.
  *
  * VERSION. RAHMISVE_VERSION is the version of this file, rahmisve_version() that of the archive. Every change of a signature, a size or a
- * place raises it, and every new or changed number of an answer, a verdict or a find. Where `rahmisve_version() != RAHMISVE_VERSION` the
- * program was built with the header of another archive, and nothing else below may be called.
+ * place raises it, every new or changed number of an answer, a verdict or a find, and every change of what a block's row allows or its
+ * records hold: 2 gave block 2 its fourth record in version 3 of the format. Where `rahmisve_version() != RAHMISVE_VERSION` the program was
+ * built with the header of another archive, and nothing else below may be called.
  *
  * ANSWERS. A function returns its answer: 0, which is accepted, or the number of a refusal, each named once in the list below. Of several
  * grounds the first one decides, in the order that stands with the function. Three functions refuse nothing and return something else:
@@ -48,7 +49,7 @@ extern "C" {
 
 /* ---- Version -------------------------------------------------------------------------------------------------------------------- */
 
-#define RAHMISVE_VERSION 1
+#define RAHMISVE_VERSION 2
 
 /* The version of the archive that is linked. */
 uint32_t rahmisve_version(void);
@@ -112,8 +113,9 @@ enum { RAHMISVE_ANSWERS(RAHMISVE_CONSTANT) RAHMISVE_ANSWER_NUMBERS };
 uint8_t rahmisve_read(const uint8_t *block, size_t block_length, uint16_t *room, size_t room_length,
                       uint8_t header[RAHMISVE_HEADER_BYTES], uint8_t copies[RAHMISVE_COPY_MARKS], size_t *word_count);
 
-/* What a header asks for: the block's number, 0 to 11, its version, the bits of its words, how many detector records it has (0 in
- * blocks 0 and 11), C, and how many bytes the field of so many words takes; the block has RAHMISVE_AROUND_BYTES more.
+/* What a header asks for: the block's number, 0 to 11, its version, the bits of its words, how many detector records it has (4 in block 1;
+ * 3 in block 2, but 4 from version 3 on; 1 in blocks 3 to 10; 0 in blocks 0 and 11), C, and how many bytes the field of so many words takes;
+ * the block has RAHMISVE_AROUND_BYTES more.
  * Refusals: 1, 4, 5, 6, 7. */
 uint8_t rahmisve_plan(const uint8_t *header, size_t header_length, uint8_t *block, uint8_t *version, uint8_t *size, uint8_t *records,
                       size_t *word_count, size_t *field_bytes);
@@ -130,7 +132,8 @@ uint8_t rahmisve_write(const uint8_t *header, size_t header_length, const uint16
 #define RAHMISVE_DOCUMENTATION_WORDS 16 /* words of line documentation at the front of a record; its pixels stand behind them */
 
 /* Where a record, from 1, lies in the words that the block with this header was read to: `length` of them from `start` on.
- * `word_count` is how many words the caller has there: C, or more, as where it is the whole room. Fewer than C is refusal 9.
+ * `word_count` is how many words the caller has there: C, or more, as where it is the whole room. Fewer than C is refusal 9. A count does not
+ * tell how many records share it: 84 words of block 2 are three records of 28 in version 2, four of 21 in version 3.
  * Refusals: 1, 4, 5, 6, 7, 13, 9. */
 uint8_t rahmisve_record(const uint8_t *header, size_t header_length, size_t word_count, uint32_t record, size_t *start, size_t *length);
 

@@ -25,6 +25,21 @@ use crate::{answer, Refusal};
 /// assert_eq!(record(&header, &words, 5), Err(Refusal::NoRecord));
 /// # Ok::<(), Refusal>(())
 /// ```
+///
+/// How many records share the words is the version's matter: 84 words of block 2 are three records of 28 up to version 2,
+/// and four of 21 in version 3.
+///
+/// ```
+/// use rahmisve::*;
+/// # let mut header = [0; HEADER_BYTES];
+/// # (header[HEADER_ID], header[HEADER_SIZE], header[HEADER_COUNT + 1]) = (2, 10, 84 + EXTRA_WORDS as u8);
+/// # let words = [0; 84];
+/// header[HEADER_VERSION] = 2;
+/// assert_eq!((plan(&header)?.records, record(&header, &words, 3)?.len()), (3, 28));
+/// header[HEADER_VERSION] = 3;
+/// assert_eq!((plan(&header)?.records, record(&header, &words, 4)?.len()), (4, 21));
+/// # Ok::<(), Refusal>(())
+/// ```
 pub fn record<'a>(header: &[u8], words: &'a [u16], record: u32) -> Result<&'a [u16], Refusal> {
     let (mut start, mut length) = (0, 0);
     // SAFETY: as in `read`; of the words only their count is given.
@@ -52,7 +67,8 @@ pub struct Place {
 ///
 /// ```
 /// use rahmisve::*;
-/// assert_eq!(place(2, 3, 3), Ok(Place { channel: 6, detector: 1 }));
+/// assert_eq!(place(2, 3, 4), Ok(Place { channel: 6, detector: 2 }));
+/// assert_eq!(place(2, 2, 4), Err(Refusal::NoRecord));
 /// assert_eq!(place(3, 3, 2), Err(Refusal::NoRecord));
 /// ```
 pub fn place(block: u32, version: u32, record: u32) -> Result<Place, Refusal> {
