@@ -96,7 +96,7 @@ pub fn record(header: &[u8], words: &[u16], k: usize) -> (u8, usize, usize) {
 fn try_record(lent: &[u8], words: &[u16], k: usize) -> Result<(usize, usize), u8> {
     let header = header::lent(lent)?;
     let meaning = header::meaning(&header)?;
-    let records = rows::records(meaning.block);
+    let records = rows::records(meaning.block, meaning.version);
     if k < 1 || k > records {
         return Err(13);
     }

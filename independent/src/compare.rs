@@ -460,8 +460,23 @@ pub fn compare_placements(library: &dyn Library) -> Result<u64, String> {
     Ok(compared)
 }
 
+/// The length of record 1 and whether there is a record 4 tell the row.
+fn compare_header(library: &dyn Library, words: &[u16], header: &[u8; 28]) -> Result<(), String> {
+    let answers =
+        |library: &dyn Library| ([1, 4].map(|k| library.record(header, words, k)), library.write(header, &[], &mut []));
+    let (ours, theirs) = (answers(&Model), answers(library));
+    if ours == theirs {
+        return Ok(());
+    }
+    Err(format!(
+        "difference in a header: {}\n  records 1 and 4, and writing no words\n  model:   {ours:?}\n  \
+         library: {theirs:?}\n",
+        hex(header)
+    ))
+}
+
 /// Refusals 4 to 7 over headers: every id with every size or version, and
-/// every count for the ids and sizes that are known.
+/// every count for the ids, sizes and versions that are known.
 pub fn compare_headers(library: &dyn Library) -> Result<u64, String> {
     let words = vec![0; rows::LARGEST_C];
     let mut compared = 0;
@@ -471,17 +486,8 @@ pub fn compare_headers(library: &dyn Library) -> Result<u64, String> {
         header[1] = size;
         header[2..4].copy_from_slice(&count.to_be_bytes());
         header[7] = version;
-        let ours = (Model.record(&header, &words, 1), Model.write(&header, &[], &mut []));
-        let theirs = (library.record(&header, &words, 1), library.write(&header, &[], &mut []));
         compared += 1;
-        if ours == theirs {
-            return Ok(());
-        }
-        Err(format!(
-            "difference in a header: {}\n  record 1 and writing no words\n  model:   {ours:?}\n  \
-             library: {theirs:?}\n",
-            hex(&header)
-        ))
+        compare_header(library, &words, &header)
     };
     for id in 0..=255 {
         for other in 0..=255 {
@@ -493,8 +499,10 @@ pub fn compare_headers(library: &dyn Library) -> Result<u64, String> {
     }
     for id in (1..=11).chain([240]) {
         for size in [6, 8, 10] {
-            for count in 0..=65_535 {
-                judge(id, size, 3, count)?;
+            for version in 0..=3 {
+                for count in 0..=65_535 {
+                    judge(id, size, version, count)?;
+                }
             }
         }
     }

@@ -1,6 +1,7 @@
-//! The numbered table, the further run cases, the listing's example and the
-//! errors trainees bring, with the answers that the specification prints.
-//! Nothing here asks the model, so it is checked like any library.
+//! The numbered table, the further run cases, block 2 by version, the listing's
+//! example and the errors trainees bring, with the answers that the
+//! specification prints. Nothing here asks the model, so it is checked like any
+//! library.
 
 use std::fmt::Debug;
 
@@ -51,9 +52,30 @@ fn reseal(block: &mut [u8]) {
     block[end..].copy_from_slice(&check.to_be_bytes());
 }
 
+/// A block of so many ten-bit words, all zero, under any header.
+fn zeros(lent: &[u8; 28], c: u16) -> Vec<u8> {
+    let mut copy = lent.to_vec();
+    copy.extend(check_word(lent).to_be_bytes());
+    let mut block = copy.repeat(3);
+    block.resize(92 + ((10 * c as usize).div_ceil(16) * 2).max(2_680), 0);
+    reseal(&mut block);
+    block
+}
+
+/// The same block under another version, each copy's check made good.
+fn of_version(block: &[u8], version: u8) -> Vec<u8> {
+    let mut block = block.to_vec();
+    for copy in block.chunks_exact_mut(30).take(3) {
+        copy[7] = version;
+        let check = check_word(&copy[..28]);
+        copy[28..].copy_from_slice(&check.to_be_bytes());
+    }
+    block
+}
+
 /// The field of a block whose words are all ones: its bytes and its fill bits.
-fn field_and_fill(library: &dyn Library, id: u8, c: u16) -> (u8, usize, u32) {
-    let (number, block) = written(library, &header(id, 10, 0, c), &vec![1023; c as usize]);
+fn field_and_fill(library: &dyn Library, id: u8, version: u8, c: u16) -> (u8, usize, u32) {
+    let (number, block) = written(library, &header(id, 10, version, c), &vec![1023; c as usize]);
     let mut fill = 0;
     let bytes = block.len().saturating_sub(92);
     for byte in block.iter().rev().skip(2).take(bytes) {
@@ -85,15 +107,15 @@ const NEXT_TAG: [u8; 8] = [0x20, 0x08, 0x06, 0x10, 0x00, 0x00, 0x00, 0x00];
 
 pub fn table(library: &dyn Library, found: &mut Findings) {
     let sizes = |id, c| {
-        let (number, bytes, _) = field_and_fill(library, id, c);
+        let (number, bytes, _) = field_and_fill(library, id, 0, c);
         (number, bytes)
     };
     found.expect("row 1", sizes(1, 68), (0, 2_680));
     found.expect("row 2", sizes(1, 21_008), (0, 26_260));
-    found.expect("row 3", field_and_fill(library, 2, 15_756), (0, 19_696, 8));
-    found.expect("row 4", field_and_fill(library, 3, 20_960), (0, 26_200, 0));
-    found.expect("row 5", field_and_fill(library, 1, 2_144), (0, 2_680, 0));
-    found.expect("row 6", field_and_fill(library, 1, 2_148), (0, 2_686, 8));
+    found.expect("row 3", field_and_fill(library, 2, 0, 15_756), (0, 19_696, 8));
+    found.expect("row 4", field_and_fill(library, 3, 0, 20_960), (0, 26_200, 0));
+    found.expect("row 5", field_and_fill(library, 1, 0, 2_144), (0, 2_680, 0));
+    found.expect("row 6", field_and_fill(library, 1, 0, 2_148), (0, 2_686, 8));
     field_starts(library, found, 3, 10, 20, &[0x00, 0x40, 0x20, 0x0C, 0x04]);
     field_starts(library, found, 11, 6, 10_720, &[0x04, 0x20, 0xC4]);
     found.expect("row 9, tag", library.read_tag(&LATE_TAG), (0, clock(2008, 60, 23, 59, 59, 999)));
@@ -123,12 +145,7 @@ pub fn further_cases(library: &dyn Library, found: &mut Findings) {
     for c in [64, 21_012] {
         let lent = header(1, 10, 0, c);
         found.expect("count refused by the writer", written(library, &lent, &vec![0; c as usize]).0, 7);
-        let mut copy = lent.to_vec();
-        copy.extend(check_word(&lent).to_be_bytes());
-        let mut block = copy.repeat(3);
-        block.resize(92 + (c as usize * 10 / 8).max(2_680), 0);
-        reseal(&mut block);
-        found.expect("count refused by the reader", read_number(library, &block), 7);
+        found.expect("count refused by the reader", read_number(library, &zeros(&lent, c)), 7);
         let part = library.record(&lent, &vec![0; c as usize], 1);
         found.expect("count refused for a record", part, (7, 0, 0));
     }
@@ -154,6 +171,115 @@ pub fn further_cases(library: &dyn Library, found: &mut Findings) {
         found.expect("count too small", library.write(&small, &[], &mut []), (7, 0));
     }
     found.expect("check word", library.check_word(b"123456789"), 0xD64E);
+}
+
+/// Four records of the widest scan, as in row 2: their words, and the bytes of their field.
+const FOUR_WIDEST: (u16, usize) = (4 * 5_252, 4 * 6_565);
+
+/// Block 2 has three records up to version 2, and four in version 3; block 1 has four throughout.
+pub fn block_2(library: &dyn Library, found: &mut Findings) {
+    block_2_counts(library, found);
+    block_2_records(library, found);
+    block_2_places(library, found);
+    block_2_read_back(library, found);
+    block_1_stays(library, found);
+}
+
+fn block_2_counts(library: &dyn Library, found: &mut Findings) {
+    let (most, bytes) = FOUR_WIDEST;
+    // 15,756 words are four records too, of 3,939 each.
+    let small = [(48, 7, 7), (51, 0, 7), (64, 7, 7), (68, 7, 0), (84, 0, 0)];
+    let large = [(15_756, 0, 0), (15_759, 7, 7), (most, 7, 0), (most + 4, 7, 7)];
+    for (c, old, new) in small.into_iter().chain(large) {
+        // A version above 3 is refused whatever the count.
+        for (version, number) in [(0, old), (1, old), (2, old), (3, new), (4, 5)] {
+            let lent = header(2, 10, version, c);
+            let words = vec![0; c as usize];
+            let what = |who| format!("block 2 of version {version}, {c} words, {who}");
+            found.expect(&what("writer"), written(library, &lent, &words).0, number);
+            found.expect(&what("reader"), read_number(library, &zeros(&lent, c)), number);
+            found.expect(&what("record access"), library.record(&lent, &words, 1).0, number);
+        }
+    }
+    let fields = [(68, 2_680, 20_760), (2_144, 2_680, 0), (2_148, 2_686, 8), (15_756, 19_696, 8), (most, bytes, 0)];
+    for (c, bytes, fill) in fields {
+        let what = format!("field of block 2 of version 3, {c} words");
+        found.expect(&what, field_and_fill(library, 2, 3, c), (0, bytes, fill));
+    }
+}
+
+fn block_2_records(library: &dyn Library, found: &mut Findings) {
+    let no_such = (13, 0, 0);
+    // 84 words are three records of 28 and four of 21.
+    let old = [no_such, (0, 0, 28), (0, 28, 28), (0, 56, 28), no_such, no_such];
+    let new = [no_such, (0, 0, 21), (0, 21, 21), (0, 42, 21), (0, 63, 21), no_such];
+    for (version, parts) in [(0, old), (1, old), (2, old), (3, new)] {
+        let lent = header(2, 10, version, 84);
+        for (k, part) in parts.into_iter().enumerate() {
+            let what = format!("record {k} of 84 words, block 2 of version {version}");
+            found.expect(&what, library.record(&lent, &[0; 84], k), part);
+        }
+        found.expect("a word too few for its records", library.record(&lent, &[0; 83], 1), (9, 0, 0));
+    }
+    // The fourth record of the widest scan stands where three records end.
+    let (most, _) = FOUR_WIDEST;
+    let last = library.record(&header(2, 10, 3, most), &vec![0; most as usize], 4);
+    found.expect("record 4 of the widest scan", last, (0, 15_756, 5_252));
+}
+
+fn block_2_places(library: &dyn Library, found: &mut Findings) {
+    let no_such = (13, 0, 0);
+    let first = [no_such, (0, 2, 1), (0, 2, 2), (0, 3, 1), no_such, no_such];
+    let second = [no_such, (0, 4, 1), (0, 4, 2), (0, 6, 1), no_such, no_such];
+    let third = [no_such, (0, 4, 1), (0, 4, 2), (0, 6, 1), (0, 6, 2), no_such];
+    for (version, places) in [(0, first), (1, first), (2, second), (3, third), (4, [(5, 0, 0); 6])] {
+        for (record, place) in (0..).zip(places) {
+            let what = format!("place of record {record}, block 2 of version {version}");
+            found.expect(&what, library.place(2, version, record), place);
+        }
+    }
+}
+
+/// Blocks that are written, read, listed, and read as if of the other version, which 84 and 15,756 words suit as well.
+fn block_2_read_back(library: &dyn Library, found: &mut Findings) {
+    let (most, _) = FOUR_WIDEST;
+    let blocks = [
+        (2, 51, 3, 7),
+        (2, 84, 3, 0),
+        (2, 15_756, 3, 0),
+        (3, 68, 2, 7),
+        (3, 84, 2, 0),
+        (3, 15_756, 2, 0),
+        (3, most, 2, 7),
+    ];
+    for (version, c, other, number) in blocks {
+        let words: Vec<u16> = (0..c).map(|k| k % 1_021).collect();
+        let lent = header(2, 10, version, c);
+        let (_, block) = written(library, &lent, &words);
+        let mut room = vec![9; c as usize];
+        let answer = library.read(&block, &mut room);
+        found.expect("block 2 read back", (answer.number, answer.header, answer.words), (0, lent, c as usize));
+        found.expect("words of block 2", room == words, true);
+        let listed = format!("seq block version words answer\n1 2 {version} {c} 0\nend 1\n");
+        found.expect("block 2 listed", library.list(&field(1, &block)), listed);
+        let mut room = vec![9; c as usize];
+        let answer = library.read(&of_version(&block, other), &mut room);
+        found.expect("block 2 of the other version", answer.number, number);
+        found.expect("its words", room == words, number == 0);
+    }
+}
+
+/// Block 1 has four records in every version.
+fn block_1_stays(library: &dyn Library, found: &mut Findings) {
+    for (version, channel) in [(0, 5), (1, 5), (2, 3), (3, 3)] {
+        let lent = header(1, 10, version, 68);
+        found.expect("block 1 of 68 words", written(library, &lent, &[0; 68]).0, 0);
+        found.expect("its record 4", library.record(&lent, &[0; 68], 4), (0, 51, 17));
+        found.expect("its place", library.place(1, version, 4), (0, channel, 2));
+        found.expect("no record 5", library.record(&lent, &[0; 68], 5), (13, 0, 0));
+        found.expect("nor its place", library.place(1, version, 5), (13, 0, 0));
+        found.expect("block 1 of 51 words", written(library, &header(1, 10, version, 51), &[0; 51]).0, 7);
+    }
 }
 
 pub fn listing(library: &dyn Library, found: &mut Findings) {
@@ -241,6 +367,7 @@ pub fn all(library: &dyn Library) -> Findings {
     let mut found = Findings { run: 0, wrong: Vec::new() };
     table(library, &mut found);
     further_cases(library, &mut found);
+    block_2(library, &mut found);
     listing(library, &mut found);
     trainee_errors(library, &mut found);
     found

@@ -54,7 +54,7 @@ pub fn meaning(header: &[u8; HEADER]) -> Result<Meaning, u8> {
         return Err(7);
     }
     let c = count - COUNT_ADDS;
-    if !rows::count_suits(block, size, c) {
+    if !rows::count_suits(block, version, size, c) {
         return Err(7);
     }
     Ok(Meaning { block, version, size: size as usize, c })

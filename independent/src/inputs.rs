@@ -85,6 +85,7 @@ pub struct Draft {
     pub header: [u8; HEADER],
     pub words: Vec<u16>,
     pub block: u8,
+    pub version: u8,
     pub size: usize,
 }
 
@@ -93,8 +94,10 @@ fn pixels(dice: &mut Dice) -> usize {
     const TWO_LESS: usize = LARGEST_N - 2;
     match dice.below(20) {
         0..=8 => dice.between(1, 40),
+        // 3,923 pixels in four records are as many words as the widest scan in three.
         9..=11 => dice.pick(&[
-            1, 2, 3, 4, 519, 520, 521, 522, 531, 532, 533, 534, 697, 698, 699, 700, 701, TWO_LESS, ONE_LESS, LARGEST_N,
+            1, 2, 3, 4, 519, 520, 521, 522, 531, 532, 533, 534, 697, 698, 699, 700, 701, 3_923, TWO_LESS, ONE_LESS,
+            LARGEST_N,
         ]),
         12..=14 => dice.between(500, 720),
         15..=18 => dice.between(1, 1_500),
@@ -125,28 +128,38 @@ fn count_of(header: &[u8; HEADER]) -> usize {
     u16::from_be_bytes([header[2], header[3]]) as usize
 }
 
+/// A good version; block 2 gets four records as often as three.
+fn some_version(dice: &mut Dice, id: u8) -> u8 {
+    if id == 2 && dice.one_in(3) {
+        3
+    } else {
+        dice.below(4) as u8
+    }
+}
+
 pub fn draft(dice: &mut Dice) -> Draft {
     let block = match dice.below(4) {
-        0 => dice.pick(&[1, 2, 11]),
+        0 => dice.pick(&[1, 2, 2, 11]),
         _ => dice.below(12) as u8,
     };
+    let version = some_version(dice, block);
     let (size, c) = match block {
         0 => (8, 8_040),
         11 => dice.pick(&[(6, 10_720), (8, 8_040), (10, 6_432)]),
-        _ => (10, rows::c_of_n(block, pixels(dice))),
+        _ => (10, rows::c_of_n(block, version, pixels(dice))),
     };
     let mut header: [u8; HEADER] = if dice.one_in(4) { [0; HEADER] } else { dice.bytes(HEADER).try_into().unwrap() };
     header[0] = rows::id_of_block(block);
     header[1] = size as u8;
     put_count(&mut header, (c + header::COUNT_ADDS) as u16);
-    header[7] = dice.below(4) as u8;
+    header[7] = version;
     if !dice.one_in(8) {
         header[8] = dice.below(2) as u8;
     }
     if dice.one_in(2) {
         header[16..24].copy_from_slice(&sound_tag(dice));
     }
-    Draft { header, words: some_words(dice, size, c), block, size }
+    Draft { header, words: some_words(dice, size, c), block, version, size }
 }
 
 // ---- damaged blocks ----
@@ -244,32 +257,54 @@ fn other_copy(dice: &mut Dice, copy: &[u8; 30]) -> [u8; 30] {
     sealed(&header)
 }
 
+/// A count at an end of its row or near it, or of 84 words, which are three records and four. Block 2 gets those of
+/// either row, so that its version may ask for the other.
+fn put_border_count(dice: &mut Dice, header: &mut [u8; HEADER]) {
+    let c = match header[0] {
+        block @ 1..=10 => {
+            let n = dice.pick(&[0, 1, 84 / 4 - 16, 84 / 3 - 16, LARGEST_N, LARGEST_N + 1]);
+            let c = rows::c_of_n(block, dice.pick(&[2, 3]), n);
+            c + dice.pick(&[0, 0, 0, 1]) - dice.pick(&[0, 0, 0, 1])
+        }
+        _ => dice.pick(&[10_720, 8_040, 6_432, 8_042]),
+    };
+    put_count(header, (c + header::COUNT_ADDS) as u16);
+}
+
+fn spoil_word(dice: &mut Dice, header: &mut [u8; HEADER]) {
+    match dice.below(12) {
+        0 => header[0] = dice.pick(&[0, 12, 13, 14, 15, 16, 239, 241, 255]),
+        1 => header[0] = if dice.one_in(2) { dice.byte() } else { dice.pick(&[240, 1, 2, 3, 10, 11]) },
+        2 => header[7] = dice.pick(&[4, 5, 7, 8, 16, 128, 255]),
+        3 => header[7] = dice.byte(),
+        4 => header[1] = dice.pick(&[0, 1, 6, 7, 8, 9, 10, 11, 12, 16, 255]),
+        5 => header[1] = dice.byte(),
+        6 => {
+            let near = count_of(header) as i64 + dice.pick(&[-12, -4, -3, -2, -1, 1, 2, 3, 4, 8, 12]);
+            put_count(header, near as u16);
+        }
+        7..=9 => put_border_count(dice, header),
+        10 => put_count(header, dice.pick(&[0, 1, 2, 3, 255, 256, 32_767, 32_768, 65_535])),
+        _ => put_count(header, dice.roll() as u16),
+    }
+}
+
+/// Another good version, and half the time another count: under it block 2 may have the other row.
+fn cross_versions(dice: &mut Dice, header: &mut [u8; HEADER]) {
+    header[7] = some_version(dice, header[0]);
+    if dice.one_in(2) {
+        put_border_count(dice, header);
+    }
+}
+
 /// Words 1, 2, 3-4 and 8 that the table may not have.
 pub fn spoil_header(dice: &mut Dice, header: &mut [u8; HEADER]) {
     loop {
-        match dice.below(12) {
-            0 => header[0] = dice.pick(&[0, 12, 13, 14, 15, 16, 239, 241, 255]),
-            1 => header[0] = if dice.one_in(2) { dice.byte() } else { dice.pick(&[240, 1, 2, 3, 10, 11]) },
-            2 => header[7] = dice.pick(&[4, 5, 7, 8, 16, 128, 255]),
-            3 => header[7] = dice.byte(),
-            4 => header[1] = dice.pick(&[0, 1, 6, 7, 8, 9, 10, 11, 12, 16, 255]),
-            5 => header[1] = dice.byte(),
-            6 => {
-                let near = count_of(header) as i64 + dice.pick(&[-12, -4, -3, -2, -1, 1, 2, 3, 4, 8, 12]);
-                put_count(header, near as u16);
-            }
-            7..=9 => {
-                let c = match header[0] {
-                    block @ 1..=10 => {
-                        let n = dice.pick(&[0, 1, LARGEST_N, LARGEST_N + 1]);
-                        rows::c_of_n(block, n) + dice.pick(&[0, 0, 0, 1]) - dice.pick(&[0, 0, 0, 1])
-                    }
-                    _ => dice.pick(&[10_720, 8_040, 6_432, 8_042]),
-                };
-                put_count(header, (c + 2) as u16);
-            }
-            10 => put_count(header, dice.pick(&[0, 1, 2, 3, 255, 256, 32_767, 32_768, 65_535])),
-            _ => put_count(header, dice.roll() as u16),
+        let chances = if header[0] == 2 { 2 } else { 12 };
+        if dice.one_in(chances) {
+            cross_versions(dice, header);
+        } else {
+            spoil_word(dice, header);
         }
         // Two faults at once show in which order they are tested.
         if !dice.one_in(3) {
@@ -509,14 +544,16 @@ fn record_case(dice: &mut Dice) -> Case {
     let k = match dice.below(8) {
         0 => dice.below(LARGEST_K + 1),
         1 | 2 => dice.below(6),
-        _ => dice.between(1, rows::records(draft.block).max(1)),
+        _ => dice.between(1, rows::records(draft.block, draft.version).max(1)),
     };
     Case::Record { words: dice.pattern(length), header, k }
 }
 
 fn place_case(dice: &mut Dice) -> Case {
     let mut byte = |likely: usize| if dice.one_in(4) { dice.byte() } else { dice.below(likely) as u8 };
-    Case::Place { block: byte(13), version: byte(5), record: byte(6) }
+    let (block, version, record) = (byte(13), byte(5), byte(6));
+    // How many records block 2 has goes by the version.
+    Case::Place { block: if dice.one_in(3) { 2 } else { block }, version, record }
 }
 
 // ---- time tags ----

@@ -8,7 +8,7 @@ use crate::tags::{self, Tag};
 use crate::watch::{Verdict, Watch};
 use crate::{rows, words};
 
-pub const FAULTS: [&str; 60] = [
+pub const FAULTS: [&str; 66] = [
     "takes copy 1 unread",
     "votes without the check",
     "unpacks ten-bit words low bits first",
@@ -69,6 +69,12 @@ pub const FAULTS: [&str; 60] = [
     "spells the numbers of a refused line",
     "spells an answer of 256 as accepted",
     "writes what fits of a text",
+    "gives block 2 four records in version 2",
+    "gives block 2 three records in version 3",
+    "gives block 1 three records in version 2",
+    "shares block 2's words by three in version 3",
+    "has no fourth placement in block 2",
+    "places 6/1 twice",
 ];
 
 pub struct Wrong(pub &'static str);
@@ -77,10 +83,46 @@ impl Wrong {
     fn is(&self, fault: &str) -> bool {
         self.0 == fault
     }
+
+    /// The header with the block and version whose row is taken for its own.
+    fn judged(&self, header: &[u8]) -> Vec<u8> {
+        let mut judged = header.to_vec();
+        match (self.0, header.first(), header.get(7)) {
+            ("gives block 2 four records in version 2", Some(2), Some(2)) => judged[7] = 3,
+            ("gives block 2 three records in version 3", Some(2), Some(3)) => judged[7] = 2,
+            ("gives block 1 three records in version 2", Some(1), Some(2)) => judged[0] = 2,
+            _ => {}
+        }
+        judged
+    }
+
+    /// Read by that row, and given back under the block's own header.
+    fn read_judged(&self, block: &[u8], room: &mut [u16]) -> ReadAnswer {
+        let Some(own) = common(block).filter(|own| self.judged(own) != own) else {
+            return Model.read(block, room);
+        };
+        let judged = self.judged(&own).try_into().unwrap();
+        let answer = Model.read(&with_header(block, &judged), room);
+        if answer.number != 0 {
+            return answer;
+        }
+        ReadAnswer { header: own, copies: passing(block), ..answer }
+    }
 }
 
 fn copy(block: &[u8], number: usize) -> [u8; HEADER] {
     block[30 * number..30 * number + HEADER].try_into().unwrap()
+}
+
+/// The header of a block whose passing copies are equal.
+fn common(block: &[u8]) -> Option<[u8; HEADER]> {
+    if block.len() < 90 {
+        return None;
+    }
+    let passing = passing(block);
+    let mut good = (0..3).filter(|&number| passing[number]).map(|number| copy(block, number));
+    let first = good.next()?;
+    good.all(|other| other == first).then_some(first)
 }
 
 fn with_header(block: &[u8], header: &[u8; HEADER]) -> Vec<u8> {
@@ -147,7 +189,7 @@ impl Library for Wrong {
             return ReadAnswer::refused(10);
         }
         let before = room.to_vec();
-        let mut answer = Model.read(block, room);
+        let mut answer = self.read_judged(block, room);
         let field = || &block[90..block.len() - 2];
         match (self.0, answer.number) {
             ("unpacks ten-bit words low bits first", 0) if answer.header[1] == 10 => {
@@ -192,7 +234,12 @@ impl Library for Wrong {
     }
 
     fn write(&self, header: &[u8], words: &[u16], dest: &mut [u8]) -> (u8, usize) {
-        let (number, written) = Model.write(header, words, dest);
+        let judged = self.judged(header);
+        let (number, written) = Model.write(&judged, words, dest);
+        if number == 0 && judged != header {
+            let own = sealed(header.try_into().unwrap());
+            dest[..90].copy_from_slice(&own.repeat(3));
+        }
         let rounded = number == 0 && written > 2_772 && (10 * words.len()).div_ceil(8) % 2 == 1;
         if self.is("ends block 2's field at a byte") && rounded && header[0] == 2 {
             dest.copy_within(written - 2..written, written - 3);
@@ -208,12 +255,16 @@ impl Library for Wrong {
     }
 
     fn record(&self, header: &[u8], words: &[u16], k: usize) -> (u8, usize, usize) {
-        let (number, start, length) = Model.record(header, words, k);
+        let (number, start, length) = Model.record(&self.judged(header), words, k);
         if self.is("counts records from 0") && number == 0 {
             return (0, start + length, length);
         }
         if self.is("tests 9 before 13 for a record") && number == 13 && words.len() < 20 {
             return (9, 0, 0);
+        }
+        if self.is("shares block 2's words by three in version 3") && number == 0 && (header[0], header[7]) == (2, 3) {
+            let third = 4 * length / 3;
+            return (0, (k - 1) * third, third);
         }
         (number, start, length)
     }
@@ -221,6 +272,14 @@ impl Library for Wrong {
     fn place(&self, block: u8, version: u8, record: u8) -> (u8, u8, u8) {
         if self.is("places version 1 like version 2") && version == 1 {
             return Model.place(block, 2, record);
+        }
+        if (block, version, record) == (2, 3, 4) {
+            if self.is("has no fourth placement in block 2") {
+                return (13, 0, 0);
+            }
+            if self.is("places 6/1 twice") {
+                return (0, 6, 1);
+            }
         }
         Model.place(block, version, record)
     }

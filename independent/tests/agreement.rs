@@ -1,9 +1,12 @@
 //! The model against the printed answers, and the comparison against libraries
 //! that are wrong on purpose.
 
+use std::collections::BTreeSet;
+
 use independent::check::check_word;
-use independent::compare::{case_of, compare, compare_placements, compare_words, run, Answer, Case, Tally};
+use independent::compare::{case_of, compare, compare_placements, compare_words, difference, run, Answer, Case, Tally};
 use independent::document::{self, Findings};
+use independent::header::{passing, COUNT_ADDS};
 use independent::inputs::{self, Dice};
 use independent::library::{list_by_lines, Library, Model};
 use independent::rows;
@@ -28,6 +31,11 @@ fn further_cases() {
 }
 
 #[test]
+fn block_2_by_version() {
+    none_wrong(document::block_2);
+}
+
+#[test]
 fn listing() {
     none_wrong(document::listing);
 }
@@ -48,6 +56,64 @@ fn every_fault_is_found() {
         }
     }
     assert!(missed.is_empty(), "not found: {missed:?}");
+}
+
+#[test]
+fn without_a_fault_none_is_found() {
+    let library = Wrong("");
+    compare(&library, 1, 0, 10_000, &mut Tally::default()).unwrap();
+    compare_placements(&library).unwrap();
+    compare_words(&library, 1, 5_000).unwrap();
+    assert!(document::all(&library).wrong.is_empty());
+}
+
+/// Whoever goes by the row gives the wrong one away: the reader, the writer and record access.
+#[test]
+fn a_wrong_row_is_found_by_each_way_to_it() {
+    for fault in [
+        "gives block 2 four records in version 2",
+        "gives block 2 three records in version 3",
+        "gives block 1 three records in version 2",
+    ] {
+        assert!(FAULTS.contains(&fault));
+        for kind in ["read", "write", "record"] {
+            let mut cases = (0..30_000).map(|number| case_of(1, number)).filter(|case| case.kind() == kind);
+            let found = cases.any(|case| difference(&Wrong(fault), &case, &run(&Model, &case)).is_some());
+            assert!(found, "{fault}: {kind}");
+        }
+    }
+}
+
+/// The header that a case lends, or that a block begins with.
+fn header_of(case: &Case) -> Option<[u8; 28]> {
+    match case {
+        Case::Write { header, .. } | Case::Record { header, .. } => header[..].try_into().ok(),
+        Case::Read { block, .. } if block.len() >= 90 && passing(block)[0] => block[..28].try_into().ok(),
+        _ => None,
+    }
+}
+
+/// Counts of one row, of both and just outside, and records there are and are not, in versions with either row.
+#[test]
+fn block_2_is_met_at_the_ends_of_both_rows() {
+    let (mut counts, mut parts) = (BTreeSet::new(), BTreeSet::new());
+    for number in 0..30_000 {
+        let case = case_of(7, number);
+        let Some(header) = header_of(&case).filter(|header| header[..2] == [2, 10] && header[7] <= 3) else { continue };
+        let records = rows::records(2, header[7]);
+        counts.insert((records, u16::from_be_bytes([header[2], header[3]]) as usize));
+        if let (Case::Record { k, .. }, Answer::Part(0 | 13, ..)) = (&case, run(&Model, &case).answer) {
+            parts.insert((records, *k));
+        }
+    }
+    for records in [3, 4] {
+        for c in [48, 51, 64, 68, 84, 15_756, 15_759, rows::LARGEST_C, rows::LARGEST_C + 4] {
+            assert!(counts.contains(&(records, c + COUNT_ADDS)), "{c} words where {records} records are due");
+        }
+        for k in 0..=5 {
+            assert!(parts.contains(&(records, k)), "record {k} of {records}");
+        }
+    }
 }
 
 #[test]
@@ -126,12 +192,13 @@ fn records_joined_are_the_words() {
     for _ in 0..1_000 {
         let draft = inputs::draft(&mut dice);
         let mut joined: Vec<u16> = Vec::new();
-        for k in 1..=rows::records(draft.block) {
+        let records = rows::records(draft.block, draft.version);
+        for k in 1..=records {
             let (number, start, length) = Model.record(&draft.header, &draft.words, k);
             assert_eq!(number, 0);
             joined.extend(&draft.words[start..start + length]);
         }
-        assert!(joined == draft.words || rows::records(draft.block) == 0);
+        assert!(joined == draft.words || records == 0);
     }
 }
 

@@ -1,7 +1,7 @@
 //! recordings DIR [SEED COUNT]: writes recordings for the listing program into DIR, each as NAME.rec beside the
 //! listing that the model gives it, NAME.txt: one with every answer that a listing can have, the printed example,
-//! what the program `sample` makes, the widest scan, an empty one, one cut in a tag, a length and a body each, and
-//! COUNT random ones.
+//! what the program `sample` makes, the widest scans, block 2 of every version, an empty one, one cut in a tag, a length
+//! and a body each, and COUNT random ones.
 
 use std::path::Path;
 use std::process::ExitCode;
@@ -11,7 +11,7 @@ use independent::check::check_bytes;
 use independent::document::header;
 use independent::inputs::{digits, field, recording, tag_at, Dice};
 use independent::recording::list;
-use independent::rows::{c_of_n, id_of_block, LARGEST_N};
+use independent::rows::{c_of_n, id_of_block, records, LARGEST_N};
 use independent::tags::Tag;
 
 /// A block of a scan of `n` pixels, or of the fixed length.
@@ -19,7 +19,7 @@ fn scanned(number: u8, version: u8, n: usize) -> Vec<u8> {
     let (size, c) = match number {
         0 => (8, 8_040),
         11 => [(6, 10_720), (8, 8_040), (10, 6_432), (8, 8_040)][version as usize],
-        _ => (10, c_of_n(number, n)),
+        _ => (10, c_of_n(number, version, n)),
     };
     let words: Vec<u16> = (0..c).map(|k| ((k * 7 + version as usize) % (1 << size)) as u16).collect();
     let mut dest = vec![0; 32_000];
@@ -115,7 +115,7 @@ fn sample() -> Vec<u8> {
     };
     let scanned = |number: u8, n: usize, ms: i64| match number {
         0 => made(0, 8, 8_040, 2, ms),
-        _ => made(number, 10, c_of_n(number, n) as u16, 2, ms),
+        _ => made(number, 10, c_of_n(number, 2, n) as u16, 2, ms),
     };
     let mut bytes = Vec::new();
     let mut add = |tag: u8, body: &[u8]| bytes.extend(field(tag, body));
@@ -141,9 +141,24 @@ fn sample() -> Vec<u8> {
     bytes
 }
 
-/// The blocks of the widest scan, which take the most room.
+/// The blocks of the widest scan, which take the most room: with three records in block 2, and with four.
 fn widest() -> Vec<u8> {
-    (1..=10).flat_map(|number| field(1, &scanned(number, 2, LARGEST_N))).collect()
+    let scan = |version| (1..=10).flat_map(move |number| field(1, &scanned(number, version, LARGEST_N)));
+    scan(2).chain(scan(3)).collect()
+}
+
+/// Block 2 of every version, the narrowest one and one of 84 words, which are three records or four; and each of them
+/// once more under a version with the other row, its count kept.
+fn block_2() -> Vec<u8> {
+    let mut bytes = Vec::new();
+    for version in 0..4 {
+        let other = if version == 3 { 2 } else { 3 };
+        for block in [block(2, version), scanned(2, version, 84 / records(2, version) - 16)] {
+            bytes.extend(field(1, &block));
+            bytes.extend(field(1, &reheaded(block, |copy| copy[7] = other)));
+        }
+    }
+    bytes
 }
 
 fn save(dir: &Path, name: &str, bytes: &[u8]) -> std::io::Result<()> {
@@ -156,6 +171,7 @@ fn save_all(dir: &Path, seed: u64, count: u64) -> std::io::Result<()> {
     save(dir, "example", &example())?;
     save(dir, "sample", &sample())?;
     save(dir, "widest", &widest())?;
+    save(dir, "block-2", &block_2())?;
     save(dir, "empty", &[])?;
     let whole = field(1, &block(5, 0));
     for (name, end) in [("cut-tag", 1), ("cut-length", 2), ("cut-front", 3), ("cut-body", 1_000)] {
@@ -193,7 +209,26 @@ fn usage() -> ExitCode {
 mod tests {
     use independent::block::read;
     use independent::header::meaning;
+    use independent::recording::list;
+    use independent::rows::LARGEST_C;
     use independent::watch::{begin, offer, Verdict};
+
+    #[test]
+    fn block_2_goes_by_its_version() {
+        let listed = "1 2 0 51 0, 2 - - - 7, 3 2 0 84 0, 4 2 3 84 0, 5 2 1 51 0, 6 - - - 7, 7 2 1 84 0, 8 2 3 84 0, \
+                      9 2 2 51 0, 10 - - - 7, 11 2 2 84 0, 12 2 3 84 0, 13 2 3 68 0, 14 - - - 7, 15 2 3 84 0, 16 2 2 84 0";
+        let lines = listed.replace(", ", "\n");
+        assert_eq!(list(&super::block_2()), format!("seq block version words answer\n{lines}\nend 16\n"));
+    }
+
+    #[test]
+    fn the_widest_scans_have_the_words_of_their_versions() {
+        let listing = list(&super::widest());
+        for line in ["2 2 2 15756 0".into(), format!("12 2 3 {LARGEST_C} 0"), "end 20".into()] {
+            assert!(listing.contains(&format!("\n{line}\n")), "{line} in {listing}");
+        }
+        assert!(!listing.contains('-'), "{listing}");
+    }
 
     #[test]
     fn a_watch_over_the_sample_meets_every_verdict() {
