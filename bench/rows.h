@@ -39,7 +39,7 @@ static inline size_t row_of(const uint8_t *header, struct row *row)
     count = sent - 2;
     if (id == 240 || id == 11)
         suits = count == 64320 / size;
-    else if (id == 1)
+    else if (id == 1 || (id == 2 && header[7] == 3))
         suits = pixels_suit(count, 64, 4);
     else if (id == 2)
         suits = pixels_suit(count, 48, 3);

@@ -48,9 +48,9 @@ fn row(header: &[u8]) -> Result<Row, usize> {
     }
     let sent = u16::from_be_bytes([header[2], header[3]]);
     let count = usize::from(sent.checked_sub(2).ok_or(7_usize)?);
-    let (front, each) = match id {
-        1 => (64, 4),
-        2 => (48, 3),
+    let (front, each) = match (id, header[7]) {
+        (1, _) | (2, 3) => (64, 4),
+        (2, _) => (48, 3),
         _ => (16, 4),
     };
     let suits = if fixed {

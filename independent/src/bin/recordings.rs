@@ -99,7 +99,8 @@ fn example() -> Vec<u8> {
 
 /// What the program `sample` makes, from the midnight that begins 2008 day 61 on: a scan of a hundred pixels over that
 /// midnight; blocks 11; block 3 hit in one copy, hit in its field, a byte short, under another tag, and short of a
-/// header; and scans of one pixel that a watch with a limit of 5,000 ms closes as late, clock back and broken.
+/// header; scans of one pixel that a watch with a limit of 5,000 ms closes as late, clock back and broken; and block 2 of 84
+/// words in versions 2 and 3.
 fn sample() -> Vec<u8> {
     let midnight = Tag { year: 2008, day: 61, ..Tag::default() }.time();
     let made = |number: u8, size: u8, c: u16, version: u8, ms: i64| {
@@ -138,6 +139,8 @@ fn sample() -> Vec<u8> {
     add(1, &scanned(1, 1, 12_600));
     add(1, &with_bit(scanned(2, 1, 12_700), 200, 1));
     add(1, &scanned(3, 1, 12_800));
+    add(1, &made(2, 10, 84, 2, 13_000));
+    add(1, &made(2, 10, 84, 3, 13_100));
     bytes
 }
 
@@ -248,6 +251,6 @@ mod tests {
         use Verdict::*;
         let whole = [&[Opened][..], &[Kept; 9], &[Complete], &[Stray; 5]].concat();
         let closed = [Opened, Kept, Late, Opened, Kept, ClockBack, Opened, Kept, Broken];
-        assert_eq!(verdicts, [&whole[..], &closed].concat());
+        assert_eq!(verdicts, [&whole[..], &closed, &[Stray; 2]].concat());
     }
 }
