@@ -28,19 +28,20 @@ fn block(h: &Header, ws: &[u16]) -> Vec<u8> {
 
 #[test]
 fn a_block_of_each_row_there_and_back() {
-    // id, word size, words, records, bytes of the field
+    // id, version, word size, words, records, bytes of the field
     let rows = [
-        (BLOCK_0_ID, 8, 8_040, 0, 8_040),
-        (1, 10, 68, 4, 2_680),
-        (1, 10, MOST_WORDS, 4, MOST_BYTES - AROUND_BYTES),
-        (2, 10, 15_756, 3, 19_696),
-        (3, 10, 20, 1, 2_680),
-        (10, 10, 20_960, 1, 26_200),
-        (11, 6, 10_720, 0, 8_040),
-        (11, 8, 8_040, 0, 8_040),
-        (11, 10, 6_432, 0, 8_040),
+        (BLOCK_0_ID, 0, 8, 8_040, 0, 8_040),
+        (1, 1, 10, 68, 4, 2_680),
+        (1, 2, 10, MOST_WORDS, 4, MOST_BYTES - AROUND_BYTES),
+        (2, 2, 10, 15_756, 3, 19_696),
+        (2, 3, 10, MOST_WORDS, 4, MOST_BYTES - AROUND_BYTES),
+        (3, 0, 10, 20, 1, 2_680),
+        (10, 1, 10, 20_960, 1, 26_200),
+        (11, 2, 6, 10_720, 0, 8_040),
+        (11, 3, 8, 8_040, 0, 8_040),
+        (11, 0, 10, 6_432, 0, 8_040),
     ];
-    for (version, (id, size, count, records, field)) in [0, 1, 2, 3].into_iter().cycle().zip(rows) {
+    for (id, version, size, count, records, field) in rows {
         let h = header(id, size, count as u16, version);
         let ws = words(count, size.into());
         let bytes = block(&h, &ws);
@@ -113,10 +114,24 @@ fn copies_that_pass() {
 }
 
 #[test]
+fn records_of_block_2() {
+    for (version, records, least, other) in [(0, 3, 51, 68), (1, 3, 51, 68), (2, 3, 51, 68), (3, 4, 68, 51)] {
+        let h = header(2, 10, 84, version);
+        let (ws, last) = (words(84, 10), 84 / records);
+        assert_eq!(plan(&h).map(|p| u32::from(p.records)), Ok(records));
+        assert_eq!(record(&h, &ws, records), Ok(&ws[84 - last as usize..]));
+        assert_eq!(record(&h, &ws, records + 1), Err(Refusal::NoRecord));
+        assert_eq!(plan(&header(2, 10, least, version)).map(|p| p.word_count), Ok(least as usize));
+        assert_eq!(plan(&header(2, 10, other, version)), Err(Refusal::WrongCount));
+    }
+}
+
+#[test]
 fn placement() {
     let at = |block, version, record| place(block, version, record).map(|p| (p.channel, p.detector));
     assert_eq!(at(1, 1, 3), Ok((5, 1)));
-    assert_eq!(at(2, 3, 3), Ok((6, 1)));
+    assert_eq!((at(2, 2, 3), at(2, 2, 4)), (Ok((6, 1)), Err(Refusal::NoRecord)));
+    assert_eq!((at(2, 3, 4), at(2, 3, 5)), (Ok((6, 2)), Err(Refusal::NoRecord)));
     assert_eq!(at(10, 0, 1), Ok((1, 4)));
     assert_eq!(at(257, 0, 1), Err(Refusal::UnknownBlock));
     assert_eq!(at(1, 260, 1), Err(Refusal::UnknownVersion));

@@ -410,6 +410,8 @@ static void plans(void)
     planned(h, 28, 0, 1, 2, 10, 4, RAHMISVE_MOST_WORDS, MOST_FIELD);
     head(h, 2, 10, 54, 1);
     planned(h, 28, 0, 2, 1, 10, 3, 54, 2680);
+    head(h, 2, 10, RAHMISVE_MOST_WORDS, 3);
+    planned(h, 28, 0, 2, 3, 10, 4, RAHMISVE_MOST_WORDS, MOST_FIELD);
     head(h, 7, 10, 20, 3);
     planned(h, 28, 0, 7, 3, 10, 1, 20, 2680);
     head(h, 11, 6, 10720, 0);
@@ -497,6 +499,34 @@ static void place(void)
     placed(0, 0, 1, RAHMISVE_ANSWER_NO_RECORD, 0, 0);
     placed(11, 0, 1, RAHMISVE_ANSWER_NO_RECORD, 0, 0);
     told("place: its refusals, of numbers too large for a byte too");
+}
+
+/* Up to version 2 block 2 has the counts of three records, in version 3 those of four; 84 is of both. */
+static void second(void)
+{
+    uint8_t h[28];
+    for (uint8_t version = 0; version < 3; version++) {
+        head(h, 2, 10, 84, version);
+        planned(h, 28, 0, 2, version, 10, 3, 84, 2680);
+        located(h, 28, 84, 3, 0, 56, 28);
+        located(h, 28, 84, 4, RAHMISVE_ANSWER_NO_RECORD, 0, 0);
+        placed(2, version, 4, RAHMISVE_ANSWER_NO_RECORD, 0, 0);
+        head(h, 2, 10, 51, version);
+        planned(h, 28, 0, 2, version, 10, 3, 51, 2680);
+        head(h, 2, 10, 68, version);
+        planned(h, 28, RAHMISVE_ANSWER_WRONG_COUNT, 0, 0, 0, 0, 0, 0);
+    }
+    head(h, 2, 10, 84, 3);
+    planned(h, 28, 0, 2, 3, 10, 4, 84, 2680);
+    located(h, 28, 84, 4, 0, 63, 21);
+    located(h, 28, 84, 5, RAHMISVE_ANSWER_NO_RECORD, 0, 0);
+    placed(2, 3, 4, 0, 6, 2);
+    placed(2, 3, 5, RAHMISVE_ANSWER_NO_RECORD, 0, 0);
+    head(h, 2, 10, 51, 3);
+    planned(h, 28, RAHMISVE_ANSWER_WRONG_COUNT, 0, 0, 0, 0, 0, 0);
+    head(h, 2, 10, 68, 3);
+    planned(h, 28, 0, 2, 3, 10, 4, 68, 2680);
+    told("block 2: three records up to version 2, four in version 3");
 }
 
 /* ---- parity --------------------------------------------------------------------------------------------------------------------- */
@@ -921,6 +951,7 @@ int main(void)
     plans();
     record();
     place();
+    second();
     parity();
     read_tag();
     write_tag();

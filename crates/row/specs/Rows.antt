@@ -15,8 +15,8 @@ lastBlock = 11
 abbrev pub lastVersion : ℕ
 lastVersion = 3
 
--- Block 1 consists of 4 records, block 2 of 3 (Table 3-1) before version 3 and of 4 in it, each of blocks 3 to 10 of a single one; blocks 0
--- and 11 have none.
+-- Block 1 consists of 4 records, block 2 of 3 (Table 3-1) up to version 2 and of 4 in version 3, each of blocks 3 to 10 of a single one;
+-- blocks 0 and 11 have none.
 unfoldable pub recordsIn : (block version : ℕ) → ℕ
 recordsIn block version =
     pick (eqb block 1) 4
