@@ -6,7 +6,7 @@ use mathlib.Core.Bool.{Bool, true, false, _&&_}
 use native.Mathlib.Omega.{arith}
 use lib.Dec.{lit<, lit≤, eqb, leb, ltb}
 use lib.Arith.{lt-of-le-ne}
-use borrow.Author.Tests.{leb-true, leb-false, eqb-true, eqb-false, ltb-true, ltb-false, ne-eqb, le-leb, lt-leb, le-ltb, lt-ltb}
+use borrow.Author.Tests.{leb-true, leb-false, eqb-true, eqb-false, ltb-true, ltb-false, ne-eqb, le-leb, lt-leb}
 use Rattle.ground.proofs.LawsChoice.{yes, no, either}
 use Rattle.ground.proofs.LawsTests.{both, split, not-second}
 use Rattle.row.specs.declared.Row.{Row}
@@ -60,25 +60,15 @@ row-cases P b v w h0 h1 h2 h3 h6 h8 h10 hn =
     (λ e11. hn (past-last b e0 e1 e2 e3 e11))))))
 
 -- block 2 has three records before version 3 and four from it on
-pub before-3 : (v : ℕ) → v ≤ 2 → 3 ≡ recordsIn 2 v
-unfolding recordsIn
-before-3 v l = yes _ refl (lt-ltb v 3 (omega arith)) refl
-
-pub from-3 : (v : ℕ) → 3 ≤ v → 4 ≡ recordsIn 2 v
-unfolding recordsIn
-from-3 v l = no _ refl (le-ltb v 3 l) refl
-
 pub second-cases : (P : ℕ → Type 0) (v : ℕ) → (v ≤ 2 → P 3) → (3 ≤ v → P 4) → P (recordsIn 2 v)
 unfolding recordsIn
 second-cases P v before from = either P (ltb v 3) (λ e. before (omega (arith, ltb-true v 3 e))) (λ e. from (ltb-false v 3 e))
 
--- no block has more than four
-pub records-few : (b v : ℕ) → recordsIn b v ≤ 4
-unfolding recordsIn
-records-few b v =
-    either (λ (n : ℕ). n ≤ 4) (eqb b 1) (λ _. lit≤ tt) (λ _.
-    either (λ (n : ℕ). n ≤ 4) (eqb b 2) (λ _. either (λ (n : ℕ). n ≤ 4) (ltb v 3) (λ _. lit≤ tt) (λ _. lit≤ tt)) (λ _.
-    either (λ (n : ℕ). n ≤ 4) (leb 3 b && leb b 10) (λ _. lit≤ tt) (λ _. lit≤ tt)))
+pub before-3 : (v : ℕ) → v ≤ 2 → 3 ≡ recordsIn 2 v
+before-3 v l = second-cases (λ r. 3 ≡ r) v (λ _. refl) (λ h. absurd (omega arith))
+
+pub from-3 : (v : ℕ) → 3 ≤ v → 4 ≡ recordsIn 2 v
+from-3 v l = second-cases (λ r. 4 ≡ r) v (λ h. absurd (omega arith)) (λ _. refl)
 
 -- the records of a row are those of its block number
 records-others : (b v : ℕ) → 3 ≤ b → b ≤ 10 → 1 ≡ recordsIn b v
@@ -142,3 +132,11 @@ suits-takes (others {b} {v} {n} l h s) =
 suits-takes last6 = record { sized = refl; counted = refl }
 suits-takes last8 = record { sized = refl; counted = refl }
 suits-takes last10 = record { sized = refl; counted = refl }
+
+-- no block has more than four
+pub records-few : (b v : ℕ) → recordsIn b v ≤ 4
+unfolding recordsIn
+records-few b v =
+    either (λ (n : ℕ). n ≤ 4) (eqb b 1) (λ _. lit≤ tt) (λ _.
+    either (λ (n : ℕ). n ≤ 4) (eqb b 2) (λ _. either (λ (n : ℕ). n ≤ 4) (ltb v 3) (λ _. lit≤ tt) (λ _. lit≤ tt)) (λ _.
+    either (λ (n : ℕ). n ≤ 4) (leb 3 b && leb b 10) (λ _. lit≤ tt) (λ _. lit≤ tt)))
