@@ -100,7 +100,7 @@ enum { RAHMISVE_ANSWERS(RAHMISVE_CONSTANT) RAHMISVE_ANSWER_NUMBERS };
 #define RAHMISVE_HEADER_ID 0      /* the block id: the number of the block, or RAHMISVE_BLOCK_0_ID */
 #define RAHMISVE_HEADER_SIZE 1    /* bits of a word */
 #define RAHMISVE_HEADER_COUNT 2   /* two bytes, the high one first: C + RAHMISVE_EXTRA_WORDS */
-#define RAHMISVE_HEADER_VERSION 7 /* 0 to 3 */
+#define RAHMISVE_HEADER_VERSION 7 /* 0 to 3: 0 and 1 are GOES I to L, 2 is GOES M and N, 3 is GOES O and P */
 #define RAHMISVE_HEADER_VALID 8   /* 1 where data is marked valid; not looked at either */
 #define RAHMISVE_HEADER_TIME 16   /* the tag of the SPS time, RAHMISVE_TAG_BYTES long; not looked at either */
 #define RAHMISVE_BLOCK_0_ID 240   /* the id of block 0; those of blocks 1 to 11 are their numbers */
@@ -114,8 +114,8 @@ uint8_t rahmisve_read(const uint8_t *block, size_t block_length, uint16_t *room,
                       uint8_t header[RAHMISVE_HEADER_BYTES], uint8_t copies[RAHMISVE_COPY_MARKS], size_t *word_count);
 
 /* What a header asks for: the block's number, 0 to 11, its version, the bits of its words, how many detector records it has (4 in block 1;
- * 3 in block 2, but 4 from version 3 on; 1 in blocks 3 to 10; 0 in blocks 0 and 11), C, and how many bytes the field of so many words takes;
- * the block has RAHMISVE_AROUND_BYTES more.
+ * 3 in block 2, but 4 in version 3; 1 in blocks 3 to 10; 0 in blocks 0 and 11), C, and how many bytes the field of so many words takes; the
+ * block has RAHMISVE_AROUND_BYTES more.
  * Refusals: 1, 4, 5, 6, 7. */
 uint8_t rahmisve_plan(const uint8_t *header, size_t header_length, uint8_t *block, uint8_t *version, uint8_t *size, uint8_t *records,
                       size_t *word_count, size_t *field_bytes);
@@ -132,8 +132,8 @@ uint8_t rahmisve_write(const uint8_t *header, size_t header_length, const uint16
 #define RAHMISVE_DOCUMENTATION_WORDS 16 /* words of line documentation at the front of a record; its pixels stand behind them */
 
 /* Where a record, from 1, lies in the words that the block with this header was read to: `length` of them from `start` on.
- * `word_count` is how many words the caller has there: C, or more, as where it is the whole room. Fewer than C is refusal 9. A count does not
- * tell how many records share it: 84 words of block 2 are three records of 28 in version 2, four of 21 in version 3.
+ * `word_count` is how many words the caller has there: C, or more, as where it is the whole room. Fewer than C is refusal 9. In block 2 the
+ * version says how many records share the words: 84 are three records of 28 up to version 2, four of 21 in version 3.
  * Refusals: 1, 4, 5, 6, 7, 13, 9. */
 uint8_t rahmisve_record(const uint8_t *header, size_t header_length, size_t word_count, uint32_t record, size_t *start, size_t *length);
 

@@ -66,11 +66,11 @@ pub fn read(block: &[u8], room: &mut [u16]) -> Result<Read, Refusal> {
 pub struct Plan {
     /// The block's number, 0 to 11.
     pub block: u8,
-    /// The version, 0 to 3.
+    /// The version, 0 to 3: 0 and 1 are GOES I to L, 2 is GOES M and N, 3 is GOES O and P.
     pub version: u8,
     /// Bits of a word.
     pub size: u8,
-    /// Detector records; none in blocks 0 and 11.
+    /// Detector records: 4 in block 1; 3 in block 2, but 4 in version 3; 1 in blocks 3 to 10; none in blocks 0 and 11.
     pub records: u8,
     /// Words of the block.
     pub word_count: usize,

@@ -26,8 +26,8 @@ use crate::{answer, Refusal};
 /// # Ok::<(), Refusal>(())
 /// ```
 ///
-/// How many records share the words is the version's matter: 84 words of block 2 are three records of 28 up to version 2,
-/// and four of 21 in version 3.
+/// In block 2 the version says how many records share the words: 84 are three records of 28 up to version 2, and four of
+/// 21 in version 3.
 ///
 /// ```
 /// use rahmisve::*;

@@ -70,7 +70,7 @@ before-3 v l = second-cases (λ r. 3 ≡ r) v (λ _. refl) (λ h. absurd (omega 
 pub from-3 : (v : ℕ) → 3 ≤ v → 4 ≡ recordsIn 2 v
 from-3 v l = second-cases (λ r. 4 ≡ r) v (λ h. absurd (omega arith)) (λ _. refl)
 
--- the records of a row are those of its block number
+-- the records of a row are those of its block number and version
 records-others : (b v : ℕ) → 3 ≤ b → b ≤ 10 → 1 ≡ recordsIn b v
 unfolding recordsIn
 records-others b v l h = no _ refl (ne-eqb b 1 (λ e. omega arith)) (no _ refl (ne-eqb b 2 (λ e. omega arith)) (yes _ refl (both (le-leb 3 b l) (le-leb b 10 h)) refl))
@@ -133,7 +133,8 @@ suits-takes last6 = record { sized = refl; counted = refl }
 suits-takes last8 = record { sized = refl; counted = refl }
 suits-takes last10 = record { sized = refl; counted = refl }
 
--- no block has more than four
+-- ---- no block has more than four records
+
 pub records-few : (b v : ℕ) → recordsIn b v ≤ 4
 unfolding recordsIn
 records-few b v =

@@ -12,7 +12,7 @@ pub const LAST_BLOCK: u8 = 11;
 pub const LAST_VERSION: u8 = 3;
 
 // The version with which the eighth infrared detector came, and with it a fourth record in block 2.
-const EIGHTH_DETECTOR: u8 = 3;
+const EIGHTH_DETECTOR_VERSION: u8 = 3;
 
 // Pixels on the two scales of a scan. Numbers of the two kinds are never added to one another.
 pub struct Infrared(pub u16);
@@ -79,11 +79,10 @@ fn fixed_row(size: u8) -> Row
     }
 }
 
-// The records of block 2.
 fn records_in_2(version: u8) -> u8
     ensures { λ r. ⌜ r ≡ recordsIn 2 version ⌝ }
 {
-    if version < EIGHTH_DETECTOR {
+    if version < EIGHTH_DETECTOR_VERSION {
         return 3;
     }
     4

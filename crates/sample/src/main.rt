@@ -1,6 +1,6 @@
 // Makes a recording on standard output, through the proved writers, so that a newcomer has something to list and to watch: a whole scan of
-// version 2, blocks 11 of every version and size, damaged fields, three scans that a watch with a limit of 5,000 ms closes early, and block 2
-// with three records and with four.
+// version 2, blocks 11 of every version and size, damaged fields, three scans that a watch with a limit of 5,000 ms closes early, and
+// block 2 with three records and with four.
 ghost use Prim.Native.Nat.{_+_, _<_};
 use header::EXTRA_WORDS;
 use libc::STDERR_FILENO;
@@ -160,7 +160,7 @@ fn put_scanned(number: u8, pixels: u16, time: u32) -> bool
 }
 
 // A block whose count is given: 0 and 11, which have a fixed one, and a block 2 of either row.
-fn put_made(id: u8, size: u8, words: u16, version: u8, time: u32) -> bool
+fn put_counted(id: u8, size: u8, words: u16, version: u8, time: u32) -> bool
     requires { ⌜ words < 65534 ⌝ }
 {
     let block = Block {
@@ -174,7 +174,7 @@ fn put_made(id: u8, size: u8, words: u16, version: u8, time: u32) -> bool
 }
 
 fn put_block_0(time: u32) -> bool {
-    put_made(240, 8, 8040, 2, time)
+    put_counted(240, 8, 8040, 2, time)
 }
 
 // Blocks 0 to 10, a tenth of a second apart, over midnight: completed.
@@ -196,10 +196,10 @@ fn put_scan() -> bool {
 fn put_blocks_11(time: u32) -> bool
     requires { ⌜ time + 300 < 4294967296 ⌝ }
 {
-    put_made(11, 8, 8040, 0, time)
-        && put_made(11, 6, 10720, 1, time + 100)
-        && put_made(11, 10, 6432, 2, time + 200)
-        && put_made(11, 8, 8040, 3, time + 300)
+    put_counted(11, 8, 8040, 0, time)
+        && put_counted(11, 6, 10720, 1, time + 100)
+        && put_counted(11, 10, 6432, 2, time + 200)
+        && put_counted(11, 8, 8040, 3, time + 300)
 }
 
 // A header copy hit, which the other two make good; the data hit; a byte missing; another tag; fewer bytes than a header has.
@@ -245,7 +245,7 @@ fn put_broken(time: u32) -> bool
 fn put_second(time: u32) -> bool
     requires { ⌜ time + 100 < 4294967296 ⌝ }
 {
-    put_made(2, 10, 84, 2, time) && put_made(2, 10, 84, 3, time + 100)
+    put_counted(2, 10, 84, 2, time) && put_counted(2, 10, 84, 3, time + 100)
 }
 
 fn put_all() -> bool {

@@ -93,7 +93,7 @@ placed =
       early2 = λ v l. below 2 (λ v. Holds 2 v (2 det 1 ∷ 2 det 2 ∷ 3 det 1 ∷ [])) (below 3 _ (refl, (refl, (refl, tt))), (below 3 _ (refl, (refl, (refl, tt))), tt)) v (omega arith);
       late1 = of-late (λ v. Holds 1 v (2 det 1 ∷ 2 det 2 ∷ 3 det 1 ∷ 3 det 2 ∷ [])) (below 4 _ (refl, (refl, (refl, (refl, tt))))) (below 4 _ (refl, (refl, (refl, (refl, tt)))));
       late2 = below 3 _ (refl, (refl, (refl, tt)));
-      late3 = below 4 _ (refl, (refl, (refl, (refl, tt))));
+      latest2 = below 4 _ (refl, (refl, (refl, (refl, tt))));
       visible =
           λ i v l m.
           let seen = below 8 visibleAt (refl, (refl, (refl, (refl, (refl, (refl, (refl, (refl, tt)))))))) i l in

@@ -1,5 +1,5 @@
--- Four records in block 2: what version 3 has there, and what stays. The rows of versions 0 to 2 are printed in `Earlier` of the crate `row`,
--- their placements in `Placed` of Records. Assumes nothing.
+-- Block 2 in version 3: its four records, and that versions 0 to 2 stay, whose rows are printed in `Earlier` of the crate `row` and whose
+-- placements in `Placed` of Records. Assumes nothing.
 use Prim.Native.Nat.{ℕ, _+_, _-_, _*_, _/_, _%_, _≤_}
 use mathlib.Core.Path.{_≡_}
 use mathlib.Core.List.{List, _∷_}

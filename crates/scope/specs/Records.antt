@@ -8,8 +8,8 @@ use Rattle.records.specs.Records.{partOf, recordOf, joinedTo}
 use Rattle.placement.specs.Placement.{placeOf}
 use Rattle.scope.specs.Blocks.{Asked}
 
--- Block 1 consists of 4 records, block 2 of 3 up to version 2 and of 4 in version 3, each of blocks 3 to 10 of a single one; blocks 0 and 11
--- have none.
+-- Block 1 consists of 4 records, block 2 of 3 up to version 2 and of 4 in version 3, each of blocks 3 to 10 of a single one; blocks 0 and
+-- 11 have none.
 pub data RecordsIn : (block version records : ℕ) → Type 0 where
   zeroth : {v : ℕ} → RecordsIn 0 v 0
   first : {v : ℕ} → RecordsIn 1 v 4
@@ -54,6 +54,6 @@ pub record Placed : Type 0 where
   -- Versions 2 and 3: 2/1, 2/2, 3/1, 3/2 in block 1, and 4/1, 4/2, 6/1 in block 2, with 6/2 behind them in version 3.
   pub late1 : (v : ℕ) → 2 ≤ v → v ≤ 3 → Holds 1 v (2 det 1 ∷ 2 det 2 ∷ 3 det 1 ∷ 3 det 2 ∷ [])
   pub late2 : Holds 2 2 (4 det 1 ∷ 4 det 2 ∷ 6 det 1 ∷ [])
-  pub late3 : Holds 2 3 (4 det 1 ∷ 4 det 2 ∷ 6 det 1 ∷ 6 det 2 ∷ [])
+  pub latest2 : Holds 2 3 (4 det 1 ∷ 4 det 2 ∷ 6 det 1 ∷ 6 det 2 ∷ [])
   -- All versions: 1/5, 1/6, 1/7, 1/8, 1/1, 1/2, 1/3, 1/4 in blocks 3 to 10, one a block.
   pub visible : (i v : ℕ) → i < 8 → v ≤ 3 → Holds (3 + i) v (1 det getD (5 ∷ 6 ∷ 7 ∷ 8 ∷ 1 ∷ 2 ∷ 3 ∷ 4 ∷ []) i 0 ∷ [])

@@ -97,23 +97,24 @@ fn example() -> Vec<u8> {
     [field(1, &block(3, 2)), field(1, &[0; 89])].concat()
 }
 
-/// What the program `sample` makes, from the midnight that begins 2008 day 61 on: a scan of a hundred pixels over that
-/// midnight; blocks 11; block 3 hit in one copy, hit in its field, a byte short, under another tag, and short of a
-/// header; scans of one pixel that a watch with a limit of 5,000 ms closes as late, clock back and broken; and block 2 of 84
-/// words in versions 2 and 3.
-fn sample() -> Vec<u8> {
+/// A block whose SPS time is so many milliseconds behind the midnight that begins 2008 day 61.
+fn made(number: u8, size: u8, c: u16, version: u8, ms: i64) -> Vec<u8> {
     let midnight = Tag { year: 2008, day: 61, ..Tag::default() }.time();
-    let made = |number: u8, size: u8, c: u16, version: u8, ms: i64| {
-        let mut header = header(id_of_block(number), size, version, c);
-        header[8] = 1;
-        header[16..24].copy_from_slice(&digits(&tag_at(midnight + ms, false)));
-        let words: Vec<u16> = (0..c).map(|k| k % 61).collect();
-        let mut dest = vec![0; 32_000];
-        let (answer, length) = write(&header, &words, &mut dest);
-        assert_eq!(answer, 0);
-        dest.truncate(length);
-        dest
-    };
+    let mut header = header(id_of_block(number), size, version, c);
+    header[8] = 1;
+    header[16..24].copy_from_slice(&digits(&tag_at(midnight + ms, false)));
+    let words: Vec<u16> = (0..c).map(|k| k % 61).collect();
+    let mut dest = vec![0; 32_000];
+    let (answer, length) = write(&header, &words, &mut dest);
+    assert_eq!(answer, 0);
+    dest.truncate(length);
+    dest
+}
+
+/// What the program `sample` makes: a scan of a hundred pixels over midnight; blocks 11; block 3 hit in one copy, hit in
+/// its field, a byte short, under another tag, and short of a header; scans of one pixel that a watch with a limit of
+/// 5,000 ms closes as late, clock back and broken; and block 2 of 84 words in versions 2 and 3.
+fn sample() -> Vec<u8> {
     let scanned = |number: u8, n: usize, ms: i64| match number {
         0 => made(0, 8, 8_040, 2, ms),
         _ => made(number, 10, c_of_n(number, 2, n) as u16, 2, ms),

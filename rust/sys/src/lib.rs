@@ -8,8 +8,8 @@
 //!
 //! What include/rahmisve.h asks of a caller, for every function here:
 //!
-//! - The archive is of the version that these declarations are: where [`rahmisve_version`] is not 1, nothing else is
-//!   called.
+//! - The archive is of the version that these declarations are: where [`rahmisve_version`] is not `RAHMISVE_VERSION` of
+//!   that file, nothing else is called.
 //! - A pointer leads to as many elements as its length says, or as its type says, aligned as their type asks. Where the
 //!   length is 0 it may be null.
 //! - A place for an answer, a watch and a time are never null.

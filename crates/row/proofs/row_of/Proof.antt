@@ -1,4 +1,4 @@
--- `row_of` goes by the block number, as its definition does.
+-- `row_of` goes by the block number, in block 2 by the version too, as its definition does.
 -- Assumes nothing.
 use mathlib.Core.Path.{sym, ap, _∙_}
 use native.Mathlib.Omega.{arith}
