@@ -85,20 +85,20 @@ impl<T: Copy> Lent<T> {
         Lent { space, front, length: content.len() }
     }
 
-    fn get(&self) -> &[T] {
+    pub(crate) fn get(&self) -> &[T] {
         &self.space[self.front..self.front + self.length]
     }
 
-    fn get_mut(&mut self) -> &mut [T] {
+    pub(crate) fn get_mut(&mut self) -> &mut [T] {
         &mut self.space[self.front..self.front + self.length]
     }
 }
 
-fn lend_bytes(content: &[u8], shift: usize) -> Lent<u8> {
+pub(crate) fn lend_bytes(content: &[u8], shift: usize) -> Lent<u8> {
     Lent::new(content, shift, 0xA5)
 }
 
-fn lend_words(content: &[u16], shift: usize) -> Lent<u16> {
+pub(crate) fn lend_words(content: &[u16], shift: usize) -> Lent<u16> {
     Lent::new(content, shift, 0xA5C3)
 }
 
@@ -232,11 +232,11 @@ pub fn run(library: &dyn Library, case: &Case) -> Outcome {
     Outcome { answer, bytes, words }
 }
 
-fn hex(bytes: &[u8]) -> String {
+pub(crate) fn hex(bytes: &[u8]) -> String {
     bytes.iter().map(|byte| format!("{byte:02X}")).collect()
 }
 
-fn hex_words(words: &[u16]) -> String {
+pub(crate) fn hex_words(words: &[u16]) -> String {
     let words: Vec<String> = words.iter().map(|word| format!("{word:04X}")).collect();
     words.join(" ")
 }
@@ -354,7 +354,11 @@ fn labels(answer: &Answer) -> Vec<String> {
     }
 }
 
-fn first_difference<T: PartialEq + std::fmt::UpperHex>(name: &str, ours: &Lent<T>, theirs: &Lent<T>) -> String {
+pub(crate) fn first_difference<T: PartialEq + std::fmt::UpperHex>(
+    name: &str,
+    ours: &Lent<T>,
+    theirs: &Lent<T>,
+) -> String {
     for (place, (our, their)) in ours.space.iter().zip(&theirs.space).enumerate() {
         if our != their {
             let at = place as i64 - ours.front as i64;
@@ -507,42 +511,4 @@ pub fn compare_headers(library: &dyn Library) -> Result<u64, String> {
         }
     }
     Ok(compared)
-}
-
-/// Words out of short fields and into them, of every size and of some that no
-/// word has, with rooms and fields too small and too large.
-pub fn compare_words(library: &dyn Library, seed: u64, count: u64) -> Result<u64, String> {
-    for case in 0..count {
-        let mut dice = Dice::for_case(seed, case);
-        let size =
-            if dice.one_in(8) { dice.pick(&[0, 17, 256, 266, 65_546, u32::MAX]) } else { dice.between(1, 16) as u32 };
-        let field: Vec<u8> = (0..dice.below(41)).map(|_| dice.byte()).collect();
-        let fit = 8 * field.len() / size.clamp(1, 16) as usize;
-        let asked = if dice.one_in(16) { usize::MAX - dice.below(3) } else { dice.below(fit + 2) };
-        let room = vec![0x5A5A; (fit + 1).saturating_sub(dice.below(4))];
-        let (mut ours, mut theirs) = (room.clone(), room);
-        let taken =
-            (Model.take_words(&field, size, asked, &mut ours), library.take_words(&field, size, asked, &mut theirs));
-        let most = if dice.one_in(4) { 65_536 } else { 1 << size.clamp(1, 16) };
-        let words: Vec<u16> = (0..dice.below(fit + 2)).map(|_| dice.below(most) as u16).collect();
-        let (mut by_us, mut by_them) = (field.clone(), field.clone());
-        let put = (Model.put_words(&words, size, &mut by_us), library.put_words(&words, size, &mut by_them));
-        if taken.0 != taken.1 || ours != theirs || put.0 != put.1 || by_us != by_them {
-            return Err(format!(
-                "difference in words of {size} bits\n  {asked} out of {}\n  model:   {} {}\n  library: {} {}\n  \
-                 {} into it\n  model:   {} {}\n  library: {} {}\n",
-                hex(&field),
-                taken.0,
-                hex_words(&ours),
-                taken.1,
-                hex_words(&theirs),
-                hex_words(&words),
-                put.0,
-                hex(&by_us),
-                put.1,
-                hex(&by_them)
-            ));
-        }
-    }
-    Ok(count)
 }

@@ -5,6 +5,7 @@
 pub mod block;
 pub mod check;
 pub mod compare;
+pub mod compare_words;
 pub mod document;
 pub mod header;
 pub mod inputs;

@@ -3,7 +3,8 @@
 
 use std::process::ExitCode;
 
-use independent::compare::{compare, compare_headers, compare_placements, compare_words, Tally};
+use independent::compare::{compare, compare_headers, compare_placements, Tally};
+use independent::compare_words::compare_words;
 use independent::document;
 use independent::library::Library;
 use independent::real::Real;

@@ -73,6 +73,7 @@ pub fn put(words: &[u16], size: u32, field: &mut [u8]) -> u8 {
 #[cfg(test)]
 mod tests {
     use super::*;
+    use crate::inputs::Dice;
 
     #[test]
     fn ten_and_six_bits() {
@@ -81,6 +82,24 @@ mod tests {
         assert_eq!(pack(&[1, 2, 3, 4], 10, 5), [0x00, 0x40, 0x20, 0x0C, 0x04]);
         assert_eq!(pack(&[1, 2, 3, 4], 6, 3), [0x04, 0x20, 0xC4]);
         assert_eq!(pack(&[1, 255], 8, 3), [1, 255, 0]);
+    }
+
+    /// Five bytes as one number of forty bits, cut into four words from its high end.
+    fn four_words(five: &[u8]) -> [u16; 4] {
+        let number = five.iter().fold(0u64, |number, &byte| 256 * number + u64::from(byte));
+        [1 << 30, 1 << 20, 1 << 10, 1].map(|place: u64| (number / place % 1_024) as u16)
+    }
+
+    #[test]
+    fn ten_bits_by_fives() {
+        let mut dice = Dice::new(3);
+        for count in 0usize..600 {
+            let field = dice.bytes((10 * count).div_ceil(8) + count % 7);
+            let mut fives = field.clone();
+            fives.resize(field.len().next_multiple_of(5), 0);
+            let words: Vec<u16> = fives.chunks_exact(5).flat_map(four_words).take(count).collect();
+            assert_eq!(unpack(&field, 10, count), words);
+        }
     }
 
     #[test]

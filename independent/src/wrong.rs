@@ -8,7 +8,7 @@ use crate::tags::{self, Tag};
 use crate::watch::{Verdict, Watch};
 use crate::{rows, words};
 
-pub const FAULTS: [&str; 66] = [
+pub const FAULTS: [&str; 71] = [
     "takes copy 1 unread",
     "votes without the check",
     "unpacks ten-bit words low bits first",
@@ -75,6 +75,11 @@ pub const FAULTS: [&str; 66] = [
     "shares block 2's words by three in version 3",
     "has no fourth placement in block 2",
     "places 6/1 twice",
+    "forgets the words behind the last group",
+    "takes a group too many",
+    "exchanges two words of a group",
+    "takes a group's words low bits first",
+    "takes eight-bit words by fives",
 ];
 
 pub struct Wrong(pub &'static str);
@@ -107,6 +112,42 @@ impl Wrong {
             return answer;
         }
         ReadAnswer { header: own, copies: passing(block), ..answer }
+    }
+
+    /// Spoils words that were rightly taken, as a wrong way by groups would. `before` is the room as lent.
+    fn spoil_groups(&self, field: &[u8], size: u32, count: usize, before: &[u16], room: &mut [u16]) {
+        let whole = count - count % 4;
+        match (self.0, size) {
+            ("forgets the words behind the last group", 10) => {
+                room[whole..count].copy_from_slice(&before[whole..count]);
+            }
+            ("takes a group too many", 10) => {
+                let end = count.next_multiple_of(4).min(room.len());
+                let longer = [field, &[0; 5]].concat();
+                room[count..end].copy_from_slice(&words::unpack(&longer, 10, end)[count..]);
+            }
+            ("exchanges two words of a group", 10) => {
+                room[..whole].chunks_exact_mut(4).for_each(|group| group.swap(1, 2));
+            }
+            ("takes a group's words low bits first", 10) => {
+                for (group, five) in room[..whole].chunks_exact_mut(4).zip(field.chunks_exact(5)) {
+                    low_bits_first(group, five);
+                }
+            }
+            ("takes eight-bit words by fives", 8) => {
+                let grouped = 4 * (count / 4).min(field.len() / 5);
+                room[..grouped].copy_from_slice(&words::unpack(field, 10, grouped));
+            }
+            _ => {}
+        }
+    }
+}
+
+fn low_bits_first(group: &mut [u16], five: &[u8]) {
+    let mut number = five.iter().rev().fold(0u64, |number, &byte| 256 * number + u64::from(byte));
+    for word in group {
+        *word = (number % 1_024) as u16;
+        number /= 1_024;
     }
 }
 
@@ -154,7 +195,12 @@ impl Library for Wrong {
         if self.is("takes a size of 256 more as the size") {
             return Model.take_words(field, size % 256, count, room);
         }
-        Model.take_words(field, size, count, room)
+        let before = room.to_vec();
+        let number = Model.take_words(field, size, count, room);
+        if number == 0 {
+            self.spoil_groups(field, size, count, &before, room);
+        }
+        number
     }
 
     fn put_words(&self, words: &[u16], size: u32, field: &mut [u8]) -> u8 {
@@ -191,6 +237,9 @@ impl Library for Wrong {
         let before = room.to_vec();
         let mut answer = self.read_judged(block, room);
         let field = || &block[90..block.len() - 2];
+        if answer.number == 0 {
+            self.spoil_groups(field(), answer.header[1].into(), answer.words, &before, room);
+        }
         match (self.0, answer.number) {
             ("unpacks ten-bit words low bits first", 0) if answer.header[1] == 10 => {
                 for word in &mut room[..answer.words] {

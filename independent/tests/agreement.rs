@@ -4,7 +4,8 @@
 use std::collections::BTreeSet;
 
 use independent::check::check_word;
-use independent::compare::{case_of, compare, compare_placements, compare_words, difference, run, Answer, Case, Tally};
+use independent::compare::{case_of, compare, compare_placements, difference, run, Answer, Case, Tally};
+use independent::compare_words::{compare_counts, compare_drawn, compare_long_fields, compare_words};
 use independent::document::{self, Findings};
 use independent::header::{passing, COUNT_ADDS};
 use independent::inputs::{self, Dice};
@@ -67,6 +68,32 @@ fn without_a_fault_none_is_found() {
     assert!(document::all(&library).wrong.is_empty());
 }
 
+/// Whether the first 30,000 cases have one of this kind that gives the fault away.
+fn found_by(kind: &str, fault: &'static str) -> bool {
+    let mut cases = (0..30_000).map(|number| case_of(1, number)).filter(|case| case.kind() == kind);
+    cases.any(|case| difference(&Wrong(fault), &case, &run(&Model, &case)).is_some())
+}
+
+/// Drawn fields, all counts and blocks each find it. Long fields have words of ten bits only, so they find four of the five.
+#[test]
+fn a_wrong_way_by_groups_is_found_by_each_way_to_it() {
+    for fault in [
+        "forgets the words behind the last group",
+        "takes a group too many",
+        "exchanges two words of a group",
+        "takes a group's words low bits first",
+        "takes eight-bit words by fives",
+    ] {
+        assert!(FAULTS.contains(&fault));
+        let library = Wrong(fault);
+        assert!(compare_drawn(&library, 1, 2_000).is_err(), "{fault}: drawn fields");
+        assert!(compare_counts(&library, 1).is_err(), "{fault}: counts");
+        let of_ten_bits = !fault.contains("eight-bit");
+        assert_eq!(compare_long_fields(&library, 1).is_err(), of_ten_bits, "{fault}: long fields");
+        assert!(found_by("read", fault), "{fault}: read");
+    }
+}
+
 /// Whoever goes by the row gives the wrong one away: the reader, the writer and record access.
 #[test]
 fn a_wrong_row_is_found_by_each_way_to_it() {
@@ -77,9 +104,7 @@ fn a_wrong_row_is_found_by_each_way_to_it() {
     ] {
         assert!(FAULTS.contains(&fault));
         for kind in ["read", "write", "record"] {
-            let mut cases = (0..30_000).map(|number| case_of(1, number)).filter(|case| case.kind() == kind);
-            let found = cases.any(|case| difference(&Wrong(fault), &case, &run(&Model, &case)).is_some());
-            assert!(found, "{fault}: {kind}");
+            assert!(found_by(kind, fault), "{fault}: {kind}");
         }
     }
 }
