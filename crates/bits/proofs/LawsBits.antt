@@ -1,13 +1,13 @@
 -- The bits of a number, and the number that bits spell: each gives the other back, and bits can be joined and split.
 -- Assumes nothing.
-use mathlib.Core.Path.{_≡_, refl, sym, ap, ap₂, _∙_}
-use mathlib.Core.List.{List, [], _∷_, _++_}
+use mathlib.Core.Path.{_≡_, refl, sym, ap, ap₂, _∙_, subst}
+use mathlib.Core.List.{List, [], _∷_, _++_, append-assoc}
 use Prim.Native.Nat.{ℕ, zero, suc, _+_, _*_, _/_, _%_, _^_, _<_}
 use native.Mathlib.Nat.{mod-lt, mod-eq-of-lt, zero-div, zero-lt-suc, zero-add, suc-add, add-suc, add-comm, pow-suc, mul-comm, lt-of-lt-of-le, le-of-eq}
 use native.Mathlib.Numerals.{one-add, add-one}
 use lib.Arith.{lt-one, digits-lt}
 use lib.ListN.{length, replicate}
-use lib.Pow.{pow-pos, shr-shr, high, low, split, field, mod-mod-pow, mod-pow-add}
+use lib.Pow.{pow-pos, pow-add, shr-shr, high, low, split, field, mod-mod-pow, mod-pow-add}
 use Rattle.bits.specs.Bits.{bits, value, Below}
 
 pub length-bits : (size w : ℕ) → length (bits size w) ≡ size
@@ -50,6 +50,14 @@ bits-join (suc j) k a b h =
 
 pub bits-split : (j k n : ℕ) → bits (j + k) n ≡ bits j (n / 2 ^ k) ++ bits k (n % 2 ^ k)
 bits-split j k n = ap (bits (j + k)) (sym (split n k)) ∙ bits-join j k (n / 2 ^ k) (n % 2 ^ k) (mod-lt n (pow-pos k))
+
+-- k bits more are taken in
+pub intake : (have k acc b : ℕ) (rest : List ℕ) → b < 2 ^ k → bits have acc ++ (bits k b ++ rest) ≡ bits (have + k) (acc * 2 ^ k + b) ++ rest
+intake have k acc b rest h =
+    sym (append-assoc (bits have acc) (bits k b) rest) ∙ ap (λ (l : List ℕ). l ++ rest) (sym (bits-join have k acc b h))
+
+pub intake-lt : (have k : ℕ) {acc b : ℕ} → acc < 2 ^ have → b < 2 ^ k → acc * 2 ^ k + b < 2 ^ (have + k)
+intake-lt have k {acc} {b} ha hb = subst (λ (x : ℕ). acc * 2 ^ k + b < x) (sym (pow-add 2 have k)) (digits-lt ha hb)
 
 pub bits-zero : (k : ℕ) → bits k 0 ≡ replicate k 0
 unfolding bits

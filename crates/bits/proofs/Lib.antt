@@ -1,9 +1,13 @@
 pub mod LawsBelow
 pub mod LawsBits
+pub mod LawsElements
 pub mod LawsWords
+pub mod LawsDigits
+pub mod LawsGroups
 pub mod LawsFill
 pub mod LawsFields
 pub mod LawsFitting
 pub mod TakeTurns
+pub mod QuickTurns
 pub mod PutTurns
 pub mod Table

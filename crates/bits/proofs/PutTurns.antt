@@ -13,7 +13,8 @@ use Rattle.bits.specs.Fields.{fieldOf}
 use Rattle.bits.proofs.LawsBelow.{below-at}
 use Rattle.bits.proofs.LawsBits.{bits-zero}
 use Rattle.bits.proofs.LawsWords.{spell-next, spell-nil}
-use Rattle.bits.proofs.TakeTurns.{intake, intake-lt, emit, left}
+use Rattle.bits.proofs.LawsBits.{intake, intake-lt}
+use Rattle.bits.proofs.TakeTurns.{emit, left}
 
 -- the fill that is still to come
 abbrev pub tail : (len at have n i size : ℕ) → ℕ

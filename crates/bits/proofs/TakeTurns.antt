@@ -1,19 +1,19 @@
--- Bits come into an accumulator at its low end and go out as words at its high end: the state of `take_each`'s loop, and its two turns.
+-- Bits come into an accumulator at its low end and go out as words at its high end: the state of `take_each`'s loop, and its two turns. With
+-- no bits in hand it is the state of `take_tens`' loop too.
 -- Assumes nothing.
 use mathlib.Core.Path.{_≡_, refl, sym, ap, ap₂, _∙_, subst}
-use mathlib.Core.List.{List, _++_, append-assoc, append-nil}
+use mathlib.Core.List.{List, _++_, append-nil}
 use Prim.Native.Nat.{ℕ, suc, _+_, _-_, _*_, _/_, _%_, _^_, _≤_, _<_}
 use native.Mathlib.Nat.{mod-lt, one-mul, sub-zero, suc-mul}
 use native.Mathlib.Numerals.{add-one}
 use native.Mathlib.Omega.{arith}
-use lib.Arith.{digits-lt}
 use lib.ListN.{length, getD, take, drop, set, length-set, take-append-drop}
 use lib.Seq.{drop-set-lt, drop-drop, take-suc-set, append-snoc}
-use lib.Pow.{pow-pos, pow-add, shr-lt, shl-exact}
+use lib.Pow.{pow-pos, shr-lt, shl-exact}
 use Rattle.bits.specs.Bits.{bits, spell, words, Below}
 use Rattle.bits.specs.Fields.{wordsOf}
 use Rattle.bits.proofs.LawsBelow.{below-at}
-use Rattle.bits.proofs.LawsBits.{bits-join}
+use Rattle.bits.proofs.LawsBits.{intake, intake-lt}
 use Rattle.bits.proofs.LawsWords.{spell-next, words-top}
 
 -- ---- what taking and putting share
@@ -21,14 +21,6 @@ use Rattle.bits.proofs.LawsWords.{spell-next, words-top}
 -- `1 << h` in a number of w bits
 pub one-shl : (w h : ℕ) → h < w → 1 * 2 ^ h % 2 ^ w ≡ 2 ^ h
 one-shl w h l = shl-exact 1 h w (omega arith) (omega arith) ∙ one-mul (2 ^ h)
-
--- k bits more are taken in
-pub intake : (have k acc b : ℕ) (rest : List ℕ) → b < 2 ^ k → bits have acc ++ (bits k b ++ rest) ≡ bits (have + k) (acc * 2 ^ k + b) ++ rest
-intake have k acc b rest h =
-    sym (append-assoc (bits have acc) (bits k b) rest) ∙ ap (λ (l : List ℕ). l ++ rest) (sym (bits-join have k acc b h))
-
-pub intake-lt : (have k : ℕ) {acc b : ℕ} → acc < 2 ^ have → b < 2 ^ k → acc * 2 ^ k + b < 2 ^ (have + k)
-intake-lt have k {acc} {b} ha hb = subst (λ (x : ℕ). acc * 2 ^ k + b < x) (sym (pow-add 2 have k)) (digits-lt ha hb)
 
 -- the first `size` of `have` bits
 pub top-lt : (size have acc : ℕ) → size ≤ have → acc < 2 ^ have → acc / 2 ^ (have - size) < 2 ^ size

@@ -1,3 +1,4 @@
 pub mod Bits
 pub mod Fields
 pub mod Runs
+pub mod Quick

@@ -8,6 +8,7 @@ ghost use Rattle.bits.specs.Fields.{takeAnswer, roomTaken, putAnswer, fi
 mod fill;
 mod fitting;
 mod putting;
+mod quick;
 mod taking;
 
 // The number of two bytes, the high one first.
@@ -30,6 +31,10 @@ pub fn take_words(field: &[u8], size: u8, count: usize, room: &mut [u16]) -> u8
     }
     if room.len() < count {
         return ground::SMALL_ROOM;
+    }
+    if size == quick::SIZE {
+        quick::take_tens(field, count, room);
+        return ground::ACCEPTED;
     }
     taking::take_each(field, size as usize, count, room);
     ground::ACCEPTED

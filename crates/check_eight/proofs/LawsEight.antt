@@ -6,16 +6,15 @@ use mathlib.Core.List.{List, [], _∷_, _++_}
 use Prim.Native.Nat.{ℕ, zero, suc, _+_, _*_, _/_, _%_, _^_, _<_, _≤_}
 use native.Mathlib.Nat.{mod-lt, lt-of-le-of-lt, lt-of-lt-of-le, le-of-eq, zero-lt-suc}
 use native.Mathlib.Omega.{arith}
-use native.Mathlib.Numerals.{add-one, add-two, add-three, add-four, add-five, add-six, add-seven}
 use lib.Dec.{T, lit<}
 use lib.Arith.{digits-lt}
-use lib.ListN.{length, take, drop, getD, take-append-drop}
-use lib.Seq.{drop-cons}
+use lib.ListN.{length, take, drop, take-append-drop}
 use lib.Pow.{pow-pos, pow-add, shr-le}
 use lib.Bits.{bitXor, xor-lt, xor-zero-r}
 use Rattle.bits.specs.Bits.{bits, spell, sent, Below}
 use Rattle.bits.proofs.LawsBelow.{below-take, below-drop}
 use Rattle.bits.proofs.LawsBits.{bits-below, bits-join}
+use Rattle.bits.proofs.LawsElements.{part-eight}
 use Rattle.bits.proofs.LawsWords.{spell-append}
 use Rattle.check_rule.specs.Check.{generator, fed, feed, checkBy, checkWord}
 use Rattle.check_eight.specs.Eight.{after, big, down1, down2, down3, up2, folded, finished, joined, Stands, checkFrom}
@@ -183,23 +182,6 @@ unfolding after
 after-big r xs e h =
     let e′ : 64 ≡ 8 * length xs = omega arith in
     ap (λ (n : ℕ). feed generator r (bits n (big xs))) e′ ∙ ap (feed generator r) (bits-big xs h)
-
--- the elements at i, i + 1, .. : n of them
-elements : List ℕ → ℕ → ℕ → List ℕ
-elements s i zero = []
-elements s i (suc n) = getD s i 0 ∷ elements s (suc i) n
-
-part : (s : List ℕ) (n i : ℕ) → i + n ≤ length s → take n (drop i s) ≡ elements s i n
-unfolding elements
-part s zero i h = refl
-part s (suc n) i h =
-    ap (take (suc n)) (drop-cons s i 0 (omega arith)) ∙ ap (λ (l : List ℕ). getD s i 0 ∷ l) (part s n (suc i) (omega arith))
-
-pub part-eight : (s : List ℕ) (i : ℕ) → i + 8 ≤ length s
-    → take 8 (drop i s)
-    ≡ getD s i 0 ∷ getD s (i + 1) 0 ∷ getD s (i + 2) 0 ∷ getD s (i + 3) 0 ∷ getD s (i + 4) 0 ∷ getD s (i + 5) 0 ∷ getD s (i + 6) 0 ∷ getD s (i + 7) 0 ∷ []
-unfolding elements
-part-eight s i h = simp (add-one, add-two, add-three, add-four, add-five, add-six, add-seven) (part s 8 i h)
 
 -- eight bytes more
 pub joined-lt : (s w : ℕ) → s < 2 ^ 64 → w < 2 ^ 64 → joined s w < 2 ^ 64

@@ -1,4 +1,4 @@
--- Lent room with bytes laid into it from a place on: in front of that place and behind the bytes it is as it was.
+-- Lent room with bytes, or words, laid into it from a place on: in front of that place and behind them it is as it was.
 -- Assumes nothing.
 use Prim.Native.Nat.{ℕ, _+_}
 use mathlib.Core.Bool.{Bool}

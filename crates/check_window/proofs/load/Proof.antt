@@ -3,7 +3,7 @@
 use mathlib.Core.Path.{sym, ap, _∙_}
 use borrow.Author.Needs.{needs}
 use Rattle.check_eight.specs.Eight.{big}
-use Rattle.check_eight.proofs.LawsEight.{part-eight}
+use Rattle.bits.proofs.LawsElements.{part-eight}
 use Rattle.check_window.proofs.load.Statement.{statement}
 use Rattle.check_window.proofs.load.Tie as tie
 

@@ -7,7 +7,8 @@ use native.Mathlib.Nat.{lt-of-lt-of-le}
 use mathlib.Core.Path.{_≡_}
 use lib.Pow.{pow-mono, pow-pos, shl-exact}
 use Rattle.bits.proofs.LawsBelow.{below-at}
-use Rattle.bits.proofs.TakeTurns.{one-shl, top-lt, intake-lt}
+use Rattle.bits.proofs.LawsBits.{intake-lt}
+use Rattle.bits.proofs.TakeTurns.{one-shl, top-lt}
 use Rattle.bits.proofs.PutTurns.{State, start, write-turn, take-turn, fill-turn, finish}
 use Rattle.bits.proofs.putting.put_each.Statement.{statement}
 use Rattle.bits.proofs.putting.put_each.Tie as tie
