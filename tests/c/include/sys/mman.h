@@ -1,7 +1,8 @@
-/* What tests/c/protected.c uses of sys/mman.h, as Linux has it. */
+/* What tests/c/protected.c and tests/c/edges.c use of sys/mman.h, as Linux has it. */
 #ifndef HERE_SYS_MMAN_H
 #define HERE_SYS_MMAN_H
 #include <stddef.h>
+#define PROT_NONE 0
 #define PROT_READ 1
 #define PROT_WRITE 2
 #define MAP_PRIVATE 2
