@@ -133,16 +133,16 @@ fn main() {
         [LIBRARY, plain, good, idiomatic]
     };
     println!("microseconds a call, best of many; behind each other way, what the library is against it\n");
-    print!("{:<12}{:>8}", "", "field");
+    print!("{:<12}{:>8}{:>8}", "", "field", "words");
     for way in &ways {
         print!("{:>width$}", way.name, width = if way.name == LIBRARY.name { 10 } else { 24 });
     }
     println!();
-    for (id, size, c) in [(1, 10, 2_144), (240, 8, 8_040), (1, 10, 4 * (16 + idiomatic::LARGEST_N))] {
+    for (id, size, c) in [(1, 10, 68), (1, 10, 2_144), (240, 8, 8_040), (1, 10, 4 * (16 + idiomatic::LARGEST_N))] {
         let mut trial = Trial::new(id, size, c);
         agree(&mut trial, &ways);
         for (what, [own, others @ ..]) in WHAT.into_iter().zip(timed(&mut trial, &ways)) {
-            print!("{what:<12}{:>8}{own:>10.2}", trial.field().len());
+            print!("{what:<12}{:>8}{c:>8}{own:>10.2}", trial.field().len());
             for other in others {
                 print!("{:>24}", format!("{other:.2}, {}", against(own, other)));
             }
