@@ -6,7 +6,7 @@ use Prim.Native.Nat.{ℕ, zero, suc, _+_, _*_, _≤_}
 use native.Mathlib.Nat.{zero-add, suc-add, zero-mul, suc-mul, add-comm}
 use native.Mathlib.Omega.{arith}
 use lib.ListN.{length, take, drop, length-drop, take-append-drop}
-use lib.Seq.{take-append-le, drop-append-le, drop-drop, length-take-le}
+use lib.Seq.{take-append-le, drop-append-le, drop-at, drop-drop, length-take-le}
 use Rattle.bits.specs.Bits.{value, words, sent}
 use Rattle.bits.proofs.LawsWords.{length-spell, spell-append, drop-spell}
 
@@ -37,6 +37,12 @@ words-front size (suc count) bs rest h =
     (take-append-le size bs rest (omega (arith, e))) (drop-append-le size bs rest (omega (arith, e)))
     ∙ ap (λ (l : List ℕ). value (take size bs) ∷ l)
     (words-front size count (drop size bs) rest (omega (arith, e, length-drop size bs)))
+
+-- the words of bits that end with a word, and those of the bits behind
+pub words-join : (size j k : ℕ) (x y : List ℕ) → length x ≡ j * size → words size (j + k) (x ++ y) ≡ words size j x ++ words size k y
+words-join size j k x y e =
+    words-add size j k (x ++ y)
+    ∙ ap₂ (λ (u v : List ℕ). u ++ words size k v) (words-front size j x y (omega (arith, e))) (drop-at x y (j * size) e)
 
 -- words lie in the bytes that they need
 pub words-within : (size count bytes : ℕ) (field : List ℕ) → count * size ≤ bytes * 8 → bytes ≤ length field

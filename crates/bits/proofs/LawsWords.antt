@@ -6,12 +6,12 @@ use Prim.Native.Nat.{ℕ, zero, suc, _+_, _*_, _/_, _%_, _^_, _≤_, _<_}
 use native.Mathlib.Nat.{mod-eq-of-lt, add-comm, zero-mul, suc-mul, lt-of-lt-of-le}
 use native.Mathlib.Numerals.{add-one}
 use native.Mathlib.Omega.{arith}
-use lib.ListN.{length, getD, take, drop, length-append, length-drop, length-take}
+use lib.ListN.{length, getD, take, drop, replicate, length-append, length-drop, length-take, replicate-append-replicate}
 use lib.Seq.{take-at, drop-at, take-add, drop-nil, drop-drop, drop-cons, length-take-le}
 use lib.Pow.{shr-lt, pow-mono}
 use Rattle.bits.specs.Bits.{bits, value, spell, words, Below}
 use Rattle.bits.proofs.LawsBelow.{below-append, below-take, below-drop}
-use Rattle.bits.proofs.LawsBits.{length-bits, bits-below, bits-split, value-bits, value-lt, bits-value}
+use Rattle.bits.proofs.LawsBits.{length-bits, bits-below, bits-mod, bits-split, bits-zero, value-bits, value-lt, bits-value}
 
 pub length-words : (size count : ℕ) (bs : List ℕ) → length (words size count bs) ≡ count
 unfolding words
@@ -43,6 +43,13 @@ unfolding spell
 spell-append size [] ws = refl
 spell-append size (v ∷ vs) ws =
     ap (λ (l : List ℕ). bits size v ++ l) (spell-append size vs ws) ∙ sym (append-assoc (bits size v) (spell size vs) (spell size ws))
+
+pub spell-zeros : (size n : ℕ) → spell size (replicate n 0) ≡ replicate (n * size) 0
+unfolding spell
+spell-zeros size zero = ap (λ (m : ℕ). replicate m 0) (sym (zero-mul size))
+spell-zeros size (suc n) =
+    ap₂ (λ (x y : List ℕ). x ++ y) (bits-zero size) (spell-zeros size n) ∙ replicate-append-replicate size (n * size) 0
+    ∙ ap (λ (m : ℕ). replicate m 0) (add-comm size (n * size) ∙ sym (suc-mul n size))
 
 -- the words from i on are the word at i and those from i + 1 on
 pub spell-next : (size : ℕ) (ws : List ℕ) (i : ℕ) → i < length ws → spell size (drop i ws) ≡ bits size (getD ws i 0) ++ spell size (drop (i + 1) ws)
@@ -76,6 +83,16 @@ words-top size h count acc rest l =
     ap (λ (x : List ℕ). words size (suc count) (x ++ rest)) (bits-split size h acc)
     ∙ ap (words size (suc count)) (append-assoc (bits size (acc / 2 ^ h)) (bits h (acc % 2 ^ h)) rest)
     ∙ words-cons size count (acc / 2 ^ h) (bits h (acc % 2 ^ h) ++ rest) (shr-lt size h l)
+
+-- of the bits of any number the first word is its top
+pub words-next : (size h count n : ℕ) → words size (suc count) (bits (size + h) n) ≡ n / 2 ^ h % 2 ^ size ∷ words size count (bits h n)
+unfolding words
+words-next size h count n =
+    ap (words size (suc count)) (bits-split size h n)
+    ∙ ap₂ (λ (x y : List ℕ). value x ∷ words size count y)
+    (take-at (bits size (n / 2 ^ h)) (bits h (n % 2 ^ h)) size (length-bits size (n / 2 ^ h)))
+    (drop-at (bits size (n / 2 ^ h)) (bits h (n % 2 ^ h)) size (length-bits size (n / 2 ^ h)) ∙ bits-mod h n)
+    ∙ ap (λ (w : ℕ). w ∷ words size count (bits h n)) (value-bits size (n / 2 ^ h))
 
 -- words that are spelled are read again
 pub words-spell : (size : ℕ) (ws rest : List ℕ) → Below (2 ^ size) ws → words size (length ws) (spell size ws ++ rest) ≡ ws

@@ -7,7 +7,5 @@ pub mod LawsGroups
 pub mod LawsFill
 pub mod LawsFields
 pub mod LawsFitting
-pub mod TakeTurns
-pub mod QuickTurns
-pub mod PutTurns
+pub mod LawsTurns
 pub mod Table

@@ -1,4 +1,4 @@
 pub mod Bits
 pub mod Fields
 pub mod Runs
-pub mod Quick
+pub mod Digits

@@ -5,19 +5,18 @@ ghost use lib.ListN.{length, drop};
 ghost use Rattle.bits.specs.Bits.{sent};
 ghost use Rattle.bits.specs.Fields.{fillOf, allZero};
 
-// Whether all bytes from `start` on are zero.
+// Whether all bytes from `start` on are zero: no way out before the end, so that a compiler joins many bytes at a time.
 fn zero_from(field: &[u8], start: usize) -> bool
     requires { ⌜ start ≤ length (now field) ⌝ }
     ensures { λ r. ⌜ r ≡ allZero (sent (drop start (now (field .entry)))) ⌝ }
 {
+    let mut any: u8 = 0;
     let mut k = start;
     while k < field.len() {
-        if field[k] != 0 {
-            return false;
-        }
+        any = any | field[k];
         k += 1;
     }
-    true
+    any == 0
 }
 
 // Whether all bits behind words that fit the field are zero: the low bits of the byte in which the last word ends, then whole bytes.

@@ -79,5 +79,5 @@ pub(crate) fn take(plan: Plan, block: &[u8], room: &mut [u16])
     ensures { λ _. ⌜ now (room .exit) ≡ wordsOf (plan .size) (plan .words) (informationField (plan .bytes) (now (block .entry))) ++ drop (plan .words) (now (room .entry)) ⌝ }
 {
     let end = COPIES_BYTES + plan.bytes;
-    bits::take_words(&block[COPIES_BYTES..end], plan.size, plan.words, room);
+    taking::take_words(&block[COPIES_BYTES..end], plan.size, plan.words, room);
 }

@@ -18,7 +18,7 @@ pub extern "C" fn rahmisve_take_words(field: &[u8], size: u32, count: usize, roo
     ensures { λ r. ⌜ r ≡ takeAnswer (upTo 255 size) count (now (field .entry)) (length (now (room .entry))) ⌝ }
     ensures { λ r. ⌜ now (room .exit) ≡ roomTaken (upTo 255 size) count (now (field .entry)) (now (room .entry)) ⌝ }
 {
-    bits::take_words(field, in_byte(size), count, room)
+    taking::take_words(field, in_byte(size), count, room)
 }
 
 #[no_mangle]
@@ -26,5 +26,5 @@ pub extern "C" fn rahmisve_put_words(words: &[u16], size: u32, field: &mut [u8])
     ensures { λ r. ⌜ r ≡ putAnswer (upTo 255 size) (now (words .entry)) (length (now (field .entry))) ⌝ }
     ensures { λ r. ⌜ now (field .exit) ≡ fieldPut (upTo 255 size) (now (words .entry)) (now (field .entry)) ⌝ }
 {
-    bits::put_words(words, in_byte(size), field)
+    putting::put_words(words, in_byte(size), field)
 }

@@ -2,7 +2,7 @@
 -- Assumes nothing.
 use mathlib.Core.Path.{_≡_, refl, sym, ap, ap₂, _∙_, subst}
 use mathlib.Core.List.{List, [], _∷_, _++_, append-nil, append-assoc}
-use Prim.Native.Nat.{ℕ, suc, _+_, _≤_, _<_}
+use Prim.Native.Nat.{ℕ, suc, _+_, _-_, _≤_, _<_}
 use native.Mathlib.Nat.{add-zero}
 use native.Mathlib.Omega.{arith}
 use lib.ListN.{length, getD, take, drop, set, length-append, length-drop, take-append-drop, drop-of-length-le}
@@ -23,6 +23,12 @@ length-laid r w xs h =
 
 pub take-laid : (r : List ℕ) (w : ℕ) (xs : List ℕ) → w ≤ length r → take (w + length xs) (laid r w xs) ≡ take w r ++ xs
 take-laid r w xs h = ap (take (w + length xs)) (sym (append-assoc (take w r) xs (drop (w + length xs) r))) ∙ take-at (take w r ++ xs) _ _ (head-len r w xs h)
+
+pub take-front : (r : List ℕ) (w : ℕ) (p q : List ℕ) → w ≤ length r → take (w + length p) (laid r w (p ++ q)) ≡ take w r ++ p
+take-front r w p q h =
+    let rest = drop (w + length (p ++ q)) r in
+    ap (take (w + length p)) (ap (λ (l : List ℕ). take w r ++ l) (append-assoc p q rest) ∙ sym (append-assoc (take w r) p (q ++ rest)))
+    ∙ take-at (take w r ++ p) _ _ (head-len r w p h)
 
 pub drop-laid : (r : List ℕ) (w : ℕ) (xs : List ℕ) → w ≤ length r → drop (w + length xs) (laid r w xs) ≡ drop (w + length xs) r
 drop-laid r w xs h = ap (drop (w + length xs)) (sym (append-assoc (take w r) xs (drop (w + length xs) r))) ∙ drop-at (take w r ++ xs) _ _ (head-len r w xs h)
@@ -58,9 +64,39 @@ lay-turn src r at i h k =
     ∙ laid-snoc r at (take i src) (getD src i 0) (omega arith)
     ∙ ap (laid r at) (sym (take-suc src i 0 h) ∙ ap (λ (m : ℕ). take m src) f)
 
+-- a turn of a loop that lays to the front
+pub front-turn : (src r : List ℕ) (i : ℕ) → i < length src → i < length r
+    → set (laid r 0 (take i src)) i (getD src i 0) ≡ laid r 0 (take (i + 1) src)
+front-turn src r i h k =
+    let e : i ≡ 0 + i = omega arith in
+    ap (λ (m : ℕ). set (laid r 0 (take i src)) m (getD src i 0)) e ∙ lay-turn src r 0 i h (omega arith)
+
+pub laid-front : (r xs : List ℕ) (n : ℕ) → length xs ≡ n → laid r 0 xs ≡ xs ++ drop n r
+laid-front r xs n h =
+    let e : 0 + length xs ≡ n = omega arith in
+    ap (λ (m : ℕ). xs ++ drop m r) e
+
 -- bytes laid behind bytes laid
 pub laid-then : (r : List ℕ) (w : ℕ) (xs ys : List ℕ) (k : ℕ) {r′ r″ : List ℕ} → r′ ≡ laid r w xs → r″ ≡ laid r′ k ys → k ≡ w + length xs → w ≤ length r → r″ ≡ laid r w (xs ++ ys)
 laid-then r w xs ys k {r′} {r″} e₁ e₂ e h = e₂ ∙ ap₂ (λ (q : List ℕ) (m : ℕ). laid q m ys) e₁ e ∙ laid-more r w xs ys h
+
+-- what is laid over is gone
+pub laid-again : (r : List ℕ) (w : ℕ) (q s : List ℕ) → w ≤ length r → length q ≤ length s → laid (laid r w q) w s ≡ laid r w s
+laid-again r w q s h l =
+    let more = length s - length q in
+    let e : w + length s ≡ w + length q + more = omega arith in
+    ap₂ (λ (x y : List ℕ). x ++ (s ++ y))
+    (take-at (take w r) _ w (length-take-le w r h))
+    (ap (λ (k : ℕ). drop k (laid r w q)) e ∙ sym (drop-drop more (w + length q) (laid r w q)) ∙ ap (drop more) (drop-laid r w q h)
+    ∙ drop-drop more (w + length q) r ∙ ap (λ (k : ℕ). drop k r) (sym e))
+
+pub laid-over : (r : List ℕ) (w : ℕ) (p q s : List ℕ) → w + length p ≤ length r → length q ≤ length s
+    → laid (laid r w (p ++ q)) (w + length p) s ≡ laid r w (p ++ s)
+laid-over r w p q s h l =
+    let inside : w ≤ length r = omega arith in
+    ap (λ (t : List ℕ). laid t (w + length p) s) (sym (laid-more r w p q inside))
+    ∙ laid-again (laid r w p) (w + length p) q s (omega (arith, length-laid r w p h)) l
+    ∙ laid-more r w p s inside
 
 -- ---- what `lay` leaves, where the bytes end inside the room
 

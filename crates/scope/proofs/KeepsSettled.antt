@@ -11,10 +11,13 @@ settled =
     record {
       bits = (
         λ _ _ x y. (same (x .allowed) (y .allowed), refl),
-        λ _ _ x y. (same (x .allowed .0) (y .allowed .0), λ i. (tt, (tt, (tt, (same (x .allowed .1) (y .allowed .1) i, tt))))),
-        λ _ _ x y. (same (x .allowed .0) (y .allowed .0), λ i. (tt, (tt, (same (x .allowed .1) (y .allowed .1) i, tt)))),
+        λ _ _ x y. (same (x .allowed) (y .allowed), refl),
+        λ _ _ x y. (same (x .allowed) (y .allowed), refl),
+        λ _ _ x y. (same (x .allowed) (y .allowed), refl),
         λ _ _ x y. (same (x .allowed) (y .allowed), refl),
       );
+      taking = λ _ _ x y. (same (x .allowed .0) (y .allowed .0), λ i. (tt, (tt, (tt, (same (x .allowed .1) (y .allowed .1) i, tt)))));
+      putting = λ _ _ x y. (same (x .allowed .0) (y .allowed .0), λ i. (tt, (tt, (same (x .allowed .1) (y .allowed .1) i, tt))));
       check-eight = (
         λ _ _ x y. (same (x .allowed) (y .allowed), refl),
         λ _ _ x y. (same (x .allowed) (y .allowed), refl),

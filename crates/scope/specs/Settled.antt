@@ -2,9 +2,12 @@
 use mathlib.Core.Path.{_≡_}
 use denote.Ref.{now}
 use Rattle.bits.proofs.two_bytes
-use Rattle.bits.proofs.take_words
-use Rattle.bits.proofs.put_words
+use Rattle.bits.proofs.turned
+use Rattle.bits.proofs.fitting.is_bad_size
+use Rattle.bits.proofs.fitting.they_fit
 use Rattle.bits.proofs.fill_is_zero
+use Rattle.taking.proofs.take_words
+use Rattle.putting.proofs.put_words
 use Rattle.check_eight.proofs.word_behind
 use Rattle.check_eight.proofs.check_from
 use Rattle.check_eight.proofs.check_by_eight
@@ -74,8 +77,10 @@ use Rattle.c_recording.proofs.rahmisve_last_text
 use Rattle.scope.specs.Outcomes.{Settled, SettledUpTo, offered}
 
 pub record AllSettled : Type 0 where
-  pub bits : Settled two_bytes.ended two_bytes.Reads.Learnt × Settled take_words.ended take_words.Reads.Learnt × Settled put_words.ended put_words.Reads.Learnt
-      × Settled fill_is_zero.ended fill_is_zero.Reads.Learnt
+  pub bits : Settled two_bytes.ended two_bytes.Reads.Learnt × Settled turned.ended turned.Reads.Learnt × Settled is_bad_size.ended is_bad_size.Reads.Learnt
+      × Settled they_fit.ended they_fit.Reads.Learnt × Settled fill_is_zero.ended fill_is_zero.Reads.Learnt
+  pub taking : Settled take_words.ended take_words.Reads.Learnt
+  pub putting : Settled put_words.ended put_words.Reads.Learnt
   pub check-eight : Settled word_behind.ended word_behind.Reads.Learnt × Settled check_from.ended check_from.Reads.Learnt
       × Settled check_by_eight.ended check_by_eight.Reads.Learnt
   pub check-window : Settled check_by_turn.ended check_by_turn.Reads.Learnt

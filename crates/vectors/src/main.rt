@@ -28,7 +28,7 @@ fn check_of_digits() {
 // Four words of a field, then what taking them answered.
 fn four_words(field: &[u8], size: u8) {
     let mut room = [0u16; 4];
-    let answer = bits::take_words(field, size, 4, &mut room);
+    let answer = taking::take_words(field, size, 4, &mut room);
     word(room[0]);
     word(room[1]);
     word(room[2]);
@@ -42,7 +42,7 @@ fn four_words(field: &[u8], size: u8) {
 fn five_bytes() {
     let words = [1u16, 2, 3, 4];
     let mut field = [255u8; 5];
-    let answer = bits::put_words(&words, 10, &mut field);
+    let answer = putting::put_words(&words, 10, &mut field);
     byte(field[0]);
     byte(field[1]);
     byte(field[2]);

@@ -52,7 +52,7 @@ pub(crate) fn put_field(words: &[u16], size: u8, room: &mut [u8], end: usize) ->
     ensures { λ r. ⌜ r ≡ putAnswer size (now (words .entry)) (end - copiesLength) ⌝ }
     ensures { λ r. ⌜ now (room .exit) ≡ take copiesLength (now (room .entry)) ++ (fieldPut size (now (words .entry)) (informationField (end - copiesLength) (now (room .entry))) ++ drop end (now (room .entry))) ⌝ }
 {
-    bits::put_words(words, size, &mut room[COPIES_BYTES..end])
+    putting::put_words(words, size, &mut room[COPIES_BYTES..end])
 }
 
 // The check word of the field that ends at byte `end`, behind it.

@@ -8,7 +8,7 @@ use lib.Pow.{pow-pos}
 use Rattle.bits.specs.Fields.{allZero}
 use Rattle.bits.proofs.LawsFill.{fill-at, fill-stops, fill-goes-on}
 use Rattle.bits.proofs.LawsFitting.{last-byte, rest-short}
-use Rattle.bits.proofs.TakeTurns.{one-shl}
+use Rattle.bits.proofs.LawsTurns.{one-shl}
 use Rattle.bits.proofs.fill.zero_behind.Statement.{statement}
 use Rattle.bits.proofs.fill.zero_behind.Tie as tie
 

@@ -1,0 +1,3 @@
+pub mod LawsFours
+pub mod EachTurns
+pub mod GroupTurns
