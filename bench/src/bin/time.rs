@@ -138,7 +138,8 @@ fn main() {
         print!("{:>width$}", way.name, width = if way.name == LIBRARY.name { 10 } else { 24 });
     }
     println!();
-    for (id, size, c) in [(1, 10, 68), (1, 10, 2_144), (240, 8, 8_040), (1, 10, 4 * (16 + idiomatic::LARGEST_N))] {
+    let longest = 4 * (16 + idiomatic::LARGEST_N);
+    for (id, size, c) in [(1, 10, 68), (1, 10, 2_144), (240, 8, 8_040), (11, 6, 10_720), (1, 10, longest)] {
         let mut trial = Trial::new(id, size, c);
         agree(&mut trial, &ways);
         for (what, [own, others @ ..]) in WHAT.into_iter().zip(timed(&mut trial, &ways)) {
