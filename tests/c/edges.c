@@ -1,6 +1,6 @@
-/* edges: words out of fields that end where the memory ends, into rooms that end there too. No byte is read and no word written behind
- * them, or the program ends by a fault. Prints a line `ok - ..` or `not ok - ..` for each size of a word.
- * edges behind: a call that is lent a byte more than there is, and therefore has to end by a fault. */
+/* edges: words out of fields and into fields that end where the memory ends, or begin where it begins, and the words do so too. No byte is
+ * read or written beyond, or the program ends by a fault. Prints a line `ok - ..` or `not ok - ..` for each size of a word and each way.
+ * edges taken | put | words | front: a call that is lent a byte or a word more than there is, and therefore has to end by a fault. */
 #define _DEFAULT_SOURCE
 #include <stdio.h>
 #include <string.h>
@@ -10,19 +10,55 @@
 
 enum { PAGE_BYTES = 65536 }; /* a multiple of any machine's page */
 enum { MOST_WORDS = 200 };   /* many groups, and every rest behind them */
+enum { MOST_FILL = 40 };     /* bytes behind the words */
+enum { AROUND = 16 };        /* bytes around a field, where there are any */
+enum { UNTOUCHED = 0xA5 };
 
-static uint8_t *field_end;
-static uint16_t *room_end;
+static const size_t long_counts[] = {1000, 1003, 8040, 10720, RAHMISVE_MOST_WORDS};
+static const size_t fills[] = {0, 1, 2, 3, 5, 7, 8, 9, 15, 16, 17, MOST_FILL};
 
-/* Where these bytes end the memory ends. */
-static int memory_with_an_end(uint8_t **end)
+/* Memory with nothing in front of it and nothing behind it. */
+struct memory {
+    uint8_t *begin, *end;
+};
+
+static struct memory fields, rooms;
+static int all_good = 1;
+
+static int has_ends(struct memory *memory)
 {
-    uint8_t *pages = mmap(NULL, 2 * PAGE_BYTES, PROT_READ | PROT_WRITE, MAP_PRIVATE | MAP_ANONYMOUS, -1, 0);
+    uint8_t *pages = mmap(NULL, 3 * PAGE_BYTES, PROT_READ | PROT_WRITE, MAP_PRIVATE | MAP_ANONYMOUS, -1, 0);
     if (pages == MAP_FAILED)
         return 0;
-    *end = pages + PAGE_BYTES;
-    return mprotect(*end, PAGE_BYTES, PROT_NONE) == 0;
+    memory->begin = pages + PAGE_BYTES;
+    memory->end = memory->begin + PAGE_BYTES;
+    return mprotect(pages, PAGE_BYTES, PROT_NONE) == 0 && mprotect(memory->end, PAGE_BYTES, PROT_NONE) == 0;
 }
+
+static uint8_t *bytes_at(int end, size_t bytes)
+{
+    return end ? fields.end - bytes : fields.begin;
+}
+
+static uint16_t *words_at(int end, size_t count)
+{
+    return (uint16_t *)(void *)(end ? rooms.end - count * sizeof(uint16_t) : rooms.begin);
+}
+
+static unsigned drawn(void)
+{
+    static uint32_t state = 1;
+    state = state * 1664525 + 1013904223;
+    return state >> 16;
+}
+
+static void told(int good, unsigned size, const char *what)
+{
+    printf("%s - words of %u bits %s\n", good ? "ok" : "not ok", size, what);
+    all_good &= good;
+}
+
+/* ---- out of a field */
 
 /* A word of a field, bit by bit. */
 static unsigned word(const uint8_t *field, size_t bit, unsigned size)
@@ -33,12 +69,12 @@ static unsigned word(const uint8_t *field, size_t bit, unsigned size)
     return value;
 }
 
-static int taken(unsigned size, size_t count)
+static int taken(int end, unsigned size, size_t count)
 {
     size_t bytes = (size * count + 7) / 8;
-    const uint8_t *field = field_end - bytes;
-    uint16_t *room = room_end - count;
-    memset(room, 0xA5, count * sizeof *room);
+    const uint8_t *field = bytes_at(end, bytes);
+    uint16_t *room = words_at(end, count);
+    memset(room, UNTOUCHED, count * sizeof *room);
     if (rahmisve_take_words(field, bytes, size, count, room, count) != RAHMISVE_ANSWER_ACCEPTED)
         return 0;
     for (size_t i = 0; i < count; i++)
@@ -47,29 +83,118 @@ static int taken(unsigned size, size_t count)
     return 1;
 }
 
+static int all_taken(unsigned size)
+{
+    int good = 1;
+    for (int i = 0; i < PAGE_BYTES; i++)
+        fields.begin[i] = (uint8_t)drawn();
+    for (size_t count = 0; count <= MOST_WORDS; count++)
+        good &= taken(1, size, count) & taken(0, size, count);
+    return good;
+}
+
+/* ---- into a field */
+
+static uint8_t expected[PAGE_BYTES];
+
+/* What the words make of a field, bit by bit. */
+static void expect(const uint16_t *words, unsigned size, size_t count, size_t bytes)
+{
+    memset(expected, 0, bytes);
+    for (size_t bit = 0; bit < size * count; bit++)
+        expected[bit / 8] |= (uint8_t)((words[bit / size] >> (size - 1 - bit % size) & 1) << (7 - bit % 8));
+}
+
+/* Whether this is the answer, the field then as expected, or as it was where it is a refusal, and what stands around it as it was. */
+static int put(unsigned answer, const uint16_t *words, unsigned size, size_t count, uint8_t *field, size_t bytes)
+{
+    uint8_t *from = field == fields.begin ? field : field - AROUND;
+    uint8_t *to = field + bytes == fields.end ? fields.end : field + bytes + AROUND;
+    memset(from, UNTOUCHED, (size_t)(to - from));
+    if (rahmisve_put_words(words, count, size, field, bytes) != answer)
+        return 0;
+    for (; from < to; from++) {
+        int inside = from >= field && from < field + bytes && answer == RAHMISVE_ANSWER_ACCEPTED;
+        if (*from != (inside ? expected[from - field] : UNTOUCHED))
+            return 0;
+    }
+    return 1;
+}
+
+/* In fields just long enough, longer, and a byte too short. */
+static int put_whole(int end, unsigned size, size_t count)
+{
+    size_t bytes = (size * count + 7) / 8;
+    uint16_t *words = words_at(end, count);
+    int good = 1;
+    for (size_t i = 0; i < count; i++)
+        words[i] = (uint16_t)(drawn() >> (16 - size));
+    expect(words, size, count, bytes + MOST_FILL);
+    for (size_t i = 0; i < sizeof fills / sizeof *fills; i++)
+        good &= put(RAHMISVE_ANSWER_ACCEPTED, words, size, count, bytes_at(end, bytes + fills[i]), bytes + fills[i]);
+    if (bytes > 0)
+        good &= put(RAHMISVE_ANSWER_SMALL_ROOM, words, size, count, bytes_at(end, bytes - 1), bytes - 1);
+    return good;
+}
+
+static int all_put(unsigned size)
+{
+    int good = 1;
+    for (size_t count = 0; count <= MOST_WORDS; count++)
+        good &= put_whole(1, size, count) & put_whole(0, size, count);
+    for (size_t i = 0; i < sizeof long_counts / sizeof *long_counts; i++)
+        good &= put_whole(1, size, long_counts[i]) & put_whole(0, size, long_counts[i]);
+    return good;
+}
+
+/* One word too large, at every place. */
+static int all_refused(unsigned size)
+{
+    enum { COUNT = 100 };
+    size_t bytes = (size * COUNT + 7) / 8;
+    uint16_t *words = words_at(1, COUNT);
+    int good = 1;
+    memset(words, 0, COUNT * sizeof *words);
+    for (size_t i = 0; i < COUNT; i++) {
+        for (unsigned bit = size; bit < 16; bit++) {
+            words[i] = (uint16_t)(1u << bit);
+            good &= put(RAHMISVE_ANSWER_LARGE_WORD, words, size, COUNT, bytes_at(1, bytes), bytes);
+            good &= put(RAHMISVE_ANSWER_LARGE_WORD, words, size, COUNT, bytes_at(0, bytes + 1), bytes + 1);
+        }
+        words[i] = (uint16_t)((1u << size) - 1);
+    }
+    return good;
+}
+
+/* Whether it went well, which it cannot: words for a byte that is behind the memory or in front of it, or one word more than there are. */
+static int lent_too_much(char what)
+{
+    const uint16_t *words = words_at(1, 20);
+    switch (what) {
+    case 't':
+        return rahmisve_take_words(bytes_at(1, 24), 25, 10, 20, words_at(1, 20), 20) == RAHMISVE_ANSWER_ACCEPTED;
+    case 'p':
+        return rahmisve_put_words(words, 20, 10, bytes_at(1, 24), 25) == RAHMISVE_ANSWER_ACCEPTED;
+    case 'w':
+        return rahmisve_put_words(words, 21, 10, bytes_at(1, 27), 27) == RAHMISVE_ANSWER_ACCEPTED;
+    default:
+        return rahmisve_put_words(words, 20, 10, bytes_at(0, 25) - 1, 25) == RAHMISVE_ANSWER_ACCEPTED;
+    }
+}
+
 int main(int argc, char **argv)
 {
-    uint8_t *words_end;
-    int all_good = 1;
-    (void)argv;
-    if (!memory_with_an_end(&field_end) || !memory_with_an_end(&words_end)) {
+    if (!has_ends(&fields) || !has_ends(&rooms)) {
         perror("mmap");
         return 2;
     }
-    room_end = (uint16_t *)(void *)words_end;
-    uint32_t state = 1;
-    for (int i = 1; i <= PAGE_BYTES; i++) {
-        state = state * 1664525 + 1013904223;
-        field_end[-i] = (uint8_t)(state >> 24);
-    }
     if (argc > 1)
-        return rahmisve_take_words(field_end - 24, 25, 10, 20, room_end - 20, 20) == RAHMISVE_ANSWER_ACCEPTED;
-    for (unsigned size = 1; size <= 16; size++) {
-        int good = 1;
-        for (size_t count = 0; count <= MOST_WORDS; count++)
-            good &= taken(size, count);
-        printf("%s - up to %d words of %u bits, from where memory ends, to where memory ends\n", good ? "ok" : "not ok", MOST_WORDS, size);
-        all_good &= good;
-    }
+        return lent_too_much(argv[1][0]);
+    for (unsigned size = 1; size <= 16; size++)
+        told(all_taken(size), size, "are taken where memory ends, and where it begins");
+    for (unsigned size = 1; size <= 16; size++)
+        told(all_put(size), size, "are put where memory ends, and where it begins, with any fill behind them");
+    for (unsigned size = 1; size < 16; size++)
+        told(all_refused(size), size, "with one too large among them are refused, and the field is as it was");
     return !all_good;
 }
