@@ -8,7 +8,7 @@ use crate::tags::{self, Tag};
 use crate::watch::{Verdict, Watch};
 use crate::{rows, words};
 
-pub const FAULTS: [&str; 71] = [
+pub const FAULTS: [&str; 80] = [
     "takes copy 1 unread",
     "votes without the check",
     "unpacks ten-bit words low bits first",
@@ -80,6 +80,15 @@ pub const FAULTS: [&str; 71] = [
     "exchanges two words of a group",
     "takes a group's words low bits first",
     "takes eight-bit words by fives",
+    "takes six-bit words by the eight-bit way",
+    "forgets to put the last group",
+    "puts a group too many",
+    "puts six-bit words by the eight-bit way",
+    "lets a word of 1,024 in",
+    "spills the high bit of a word of 1,024",
+    "tests only whole sixteens of words",
+    "clears only whole eights of the fill",
+    "tests only whole eights of the fill",
 ];
 
 pub struct Wrong(pub &'static str);
@@ -137,6 +146,55 @@ impl Wrong {
             ("takes eight-bit words by fives", 8) => {
                 let grouped = 4 * (count / 4).min(field.len() / 5);
                 room[..grouped].copy_from_slice(&words::unpack(field, 10, grouped));
+            }
+            ("takes six-bit words by the eight-bit way", 6) => {
+                room[..count].iter_mut().zip(field).for_each(|(word, &byte)| *word = byte.into());
+            }
+            _ => {}
+        }
+    }
+
+    /// The words that are put in place of these, where the test of too large ones is wrong.
+    fn let_in(&self, words: &[u16], size: u32) -> Vec<u16> {
+        let mut kept = words.to_vec();
+        match (self.0, size) {
+            ("lets a word of 1,024 in", 10) => kept.iter_mut().for_each(|word| *word &= !1_024),
+            ("spills the high bit of a word of 1,024", 10) => {
+                for place in (0..kept.len()).filter(|&place| words[place] & 1_024 != 0) {
+                    kept[place] &= !1_024;
+                    if place % 4 != 0 {
+                        kept[place - 1] |= 1;
+                    }
+                }
+            }
+            ("tests only whole sixteens of words", 1..=15) => {
+                let whole = kept.len() - kept.len() % 16;
+                kept[whole..].iter_mut().for_each(|word| *word %= 1 << size);
+            }
+            _ => {}
+        }
+        kept
+    }
+
+    /// Spoils a field that words were rightly put into, as a wrong quick way would. `before` is the field as lent.
+    fn spoil_put(&self, words: &[u16], size: u32, before: &[u8], field: &mut [u8]) {
+        let four = size as usize / 2;
+        let whole = words.len() / 4 * four;
+        let end = (words.len() * size as usize).div_ceil(8);
+        let keep = |field: &mut [u8], from: usize, to: usize| field[from..to].copy_from_slice(&before[from..to]);
+        match (self.0, size) {
+            ("forgets to put the last group", 6 | 10) if whole > 0 => keep(field, whole - four, whole),
+            ("puts a group too many", 6 | 10) if whole > 0 => {
+                let room = four.min(field.len() - end);
+                field.copy_within(whole - four..whole - four + room, end);
+            }
+            ("puts six-bit words by the eight-bit way", 6) => {
+                field.fill(0);
+                field.iter_mut().zip(words).for_each(|(byte, &word)| *byte = word as u8);
+            }
+            ("leaves the fill of a lent field", _) => keep(field, end, field.len()),
+            ("clears only whole eights of the fill", _) => {
+                keep(field, field.len() - (field.len() - end) % 8, field.len())
             }
             _ => {}
         }
@@ -205,10 +263,10 @@ impl Library for Wrong {
 
     fn put_words(&self, words: &[u16], size: u32, field: &mut [u8]) -> u8 {
         let before = field.to_vec();
-        let number = Model.put_words(words, size, field);
-        if number == 0 && self.is("leaves the fill of a lent field") {
-            let front = (words.len() * size as usize).div_ceil(8);
-            field[front..].copy_from_slice(&before[front..]);
+        let words = self.let_in(words, size);
+        let number = Model.put_words(&words, size, field);
+        if number == 0 {
+            self.spoil_put(&words, size, &before, field);
         }
         number
     }
@@ -277,6 +335,14 @@ impl Library for Wrong {
                 let cleared = [&block[..90], &packed, &[0, 0]].concat();
                 answer = Model.read(&with_check(&cleared), room);
             }
+            ("tests only whole eights of the fill", 11) => {
+                let meaning = meaning(&common(block).unwrap()).unwrap();
+                let end = block.len() - 2;
+                let fill = field().len() - (meaning.size * meaning.c).div_ceil(8);
+                let mut cleared = block.to_vec();
+                cleared[end - fill % 8..end].fill(0);
+                answer = Model.read(&with_check(&cleared), room);
+            }
             _ => {}
         }
         answer
@@ -284,7 +350,19 @@ impl Library for Wrong {
 
     fn write(&self, header: &[u8], words: &[u16], dest: &mut [u8]) -> (u8, usize) {
         let judged = self.judged(header);
+        let before = dest.to_vec();
+        let size = judged.get(1).copied().unwrap_or(0).into();
+        let words = &self.let_in(words, size)[..];
         let (number, written) = Model.write(&judged, words, dest);
+        if number == 0 {
+            let field = &mut dest[90..written - 2];
+            let right = field.to_vec();
+            self.spoil_put(words, size, &before[90..written - 2], field);
+            if *field != right {
+                let checked = with_check(&dest[..written]);
+                dest[..written].copy_from_slice(&checked);
+            }
+        }
         if number == 0 && judged != header {
             let own = sealed(header.try_into().unwrap());
             dest[..90].copy_from_slice(&own.repeat(3));

@@ -5,7 +5,9 @@ use std::collections::BTreeSet;
 
 use independent::check::check_word;
 use independent::compare::{case_of, compare, compare_placements, difference, run, Answer, Case, Tally};
-use independent::compare_words::{compare_counts, compare_drawn, compare_long_fields, compare_words};
+use independent::compare_words::{
+    compare_counts, compare_drawn, compare_large_words, compare_long_fields, compare_words,
+};
 use independent::document::{self, Findings};
 use independent::header::{passing, COUNT_ADDS};
 use independent::inputs::{self, Dice};
@@ -74,7 +76,16 @@ fn found_by(kind: &str, fault: &'static str) -> bool {
     cases.any(|case| difference(&Wrong(fault), &case, &run(&Model, &case)).is_some())
 }
 
-/// Drawn fields, all counts and blocks each find it. Long fields have words of ten bits only, so they find four of the five.
+/// Drawn fields, all counts, long fields and blocks each find it.
+fn found_by_each_way(fault: &'static str, kind: &str) {
+    assert!(FAULTS.contains(&fault));
+    let library = Wrong(fault);
+    assert!(compare_drawn(&library, 1, 2_000).is_err(), "{fault}: drawn fields");
+    assert!(compare_counts(&library, 1).is_err(), "{fault}: counts");
+    assert!(compare_long_fields(&library, 1).is_err(), "{fault}: long fields");
+    assert!(found_by(kind, fault), "{fault}: {kind}");
+}
+
 #[test]
 fn a_wrong_way_by_groups_is_found_by_each_way_to_it() {
     for fault in [
@@ -83,14 +94,37 @@ fn a_wrong_way_by_groups_is_found_by_each_way_to_it() {
         "exchanges two words of a group",
         "takes a group's words low bits first",
         "takes eight-bit words by fives",
+        "takes six-bit words by the eight-bit way",
     ] {
+        found_by_each_way(fault, "read");
+    }
+}
+
+#[test]
+fn a_wrong_way_to_put_is_found_by_each_way_to_it() {
+    for fault in [
+        "forgets to put the last group",
+        "puts a group too many",
+        "puts six-bit words by the eight-bit way",
+        "leaves the fill of a lent field",
+        "clears only whole eights of the fill",
+    ] {
+        found_by_each_way(fault, "write");
+    }
+}
+
+/// Words that fit do not give it away, so that too large ones are tried in place of all counts.
+#[test]
+fn a_word_let_in_is_found_by_each_way_to_it() {
+    for fault in
+        ["lets a word of 1,024 in", "spills the high bit of a word of 1,024", "tests only whole sixteens of words"]
+    {
         assert!(FAULTS.contains(&fault));
         let library = Wrong(fault);
         assert!(compare_drawn(&library, 1, 2_000).is_err(), "{fault}: drawn fields");
-        assert!(compare_counts(&library, 1).is_err(), "{fault}: counts");
-        let of_ten_bits = !fault.contains("eight-bit");
-        assert_eq!(compare_long_fields(&library, 1).is_err(), of_ten_bits, "{fault}: long fields");
-        assert!(found_by("read", fault), "{fault}: read");
+        assert!(compare_large_words(&library, 1).is_err(), "{fault}: too large words");
+        assert!(compare_long_fields(&library, 1).is_err(), "{fault}: long fields");
+        assert!(found_by("write", fault), "{fault}: write");
     }
 }
 
