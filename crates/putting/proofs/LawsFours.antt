@@ -3,10 +3,10 @@
 use mathlib.Core.Path.{_≡_, refl, sym, ap, ap₂, _∙_, subst}
 use mathlib.Core.List.{List, [], _∷_, _++_, append-assoc, append-nil}
 use Prim.Native.Nat.{ℕ, _+_, _-_, _*_, _/_, _%_, _^_, _≤_, _<_}
-use native.Mathlib.Nat.{add-zero, lt-of-lt-of-le}
+use native.Mathlib.Nat.{add-zero}
 use native.Mathlib.Omega.{arith}
 use lib.ListN.{replicate}
-use lib.Pow.{pow-pos, pow-mono, shl-exact, shr-shr}
+use lib.Pow.{pow-pos, shl-exact, shr-shr}
 use Rattle.bits.specs.Bits.{bits, spell}
 use Rattle.bits.specs.Digits.{digits}
 use Rattle.bits.proofs.LawsBits.{bits-zero, intake, intake-lt}

@@ -74,23 +74,8 @@ fn put_sixteen(words: &[u16], i: usize, size: usize, field: &mut [u8], at: usize
     put_eight(fourth, field, at + half * 3);
 }
 
-// The same for a size of the two: in each branch it is a constant, and a compiler makes a loop of shifts by constants for each.
-fn put_turn(words: &[u16], i: usize, size: usize, field: &mut [u8], at: usize)
-    requires { ⌜ (size ≡ 6) ⊎ (size ≡ 10) ⌝ }
-    requires { ⌜ i + 16 ≤ length (now words) ⌝ }
-    requires { ⌜ Below (2 ^ size) (now words) ⌝ }
-    requires { ⌜ at + size / 2 * 3 + 8 ≤ length (now field) ⌝ }
-    ensures { λ _. ⌜ now (field .exit) ≡ laid (now (field .entry)) at (fieldOf size (size / 2 * 3 + 8) (take 16 (drop i (now (words .entry))))) ⌝ }
-{
-    if size == TEN as usize {
-        put_sixteen(words, i, TEN as usize, field, at);
-        return;
-    }
-    put_sixteen(words, i, SIX as usize, field, at);
-}
-
 // All words, sixteen a turn. A turn writes eight bytes from its fourth group on, and `least` words need so many; the last words, fewer than
-// those, are put one by one, over what the last turn wrote too far.
+// those, are put one by one, over what the last turn wrote too far. In each arm the size is a constant, as in `taking`.
 pub(crate) fn put_groups(words: &[u16], size: usize, field: &mut [u8])
     requires { ⌜ (size ≡ 6) ⊎ (size ≡ 10) ⌝ }
     requires { ⌜ length (now words) * size ≤ length (now field) * 8 ⌝ }
@@ -101,9 +86,15 @@ pub(crate) fn put_groups(words: &[u16], size: usize, field: &mut [u8])
     let mut i: usize = 0;
     let mut at: usize = 0;
     while words.len() - i >= least {
-        put_turn(words, i, size, field, at);
-        i += 16;
-        at += size * 2;
+        if size == TEN as usize {
+            put_sixteen(words, i, TEN as usize, field, at);
+            i += 16;
+            at += size * 2;
+        } else {
+            put_sixteen(words, i, SIX as usize, field, at);
+            i += 16;
+            at += size * 2;
+        }
     }
     put_plain(&words[i..], size, &mut field[at..]);
 }

@@ -102,22 +102,8 @@ fn take_sixteen(field: &[u8], at: usize, size: usize, room: &mut [u16], i: usize
     put_four(fourth, room, i + 12);
 }
 
-// The same for a size of the two: in each branch it is a constant, and a compiler makes a loop of shifts by constants for each.
-fn take_turn(field: &[u8], at: usize, size: usize, room: &mut [u16], i: usize)
-    requires { ⌜ (size ≡ 6) ⊎ (size ≡ 10) ⌝ }
-    requires { ⌜ at + size / 2 * 3 + 8 ≤ length (now field) ⌝ }
-    requires { ⌜ i + 16 ≤ length (now room) ⌝ }
-    ensures { λ _. ⌜ now (room .exit) ≡ laid (now (room .entry)) i (words size 16 (sent (drop at (now (field .entry))))) ⌝ }
-{
-    if size == TEN as usize {
-        take_sixteen(field, at, TEN as usize, room, i);
-        return;
-    }
-    take_sixteen(field, at, SIX as usize, room, i);
-}
-
 // The first `count` words, sixteen a turn. A turn reads eight bytes from its fourth group on, and `least` words have so many; the last words,
-// fewer than those, are taken one by one.
+// fewer than those, are taken one by one. In each arm the size is a constant: a compiler makes a loop of shifts by constants for each.
 pub(crate) fn take_groups(field: &[u8], size: usize, count: usize, room: &mut [u16])
     requires { ⌜ (size ≡ 6) ⊎ (size ≡ 10) ⌝ }
     requires { ⌜ count * size ≤ length (now field) * 8 ⌝ }
@@ -128,9 +114,15 @@ pub(crate) fn take_groups(field: &[u8], size: usize, count: usize, room: &mut [u
     let mut at: usize = 0;
     let mut i: usize = 0;
     while count - i >= least {
-        take_turn(field, at, size, room, i);
-        at += size * 2;
-        i += 16;
+        if size == TEN as usize {
+            take_sixteen(field, at, TEN as usize, room, i);
+            at += size * 2;
+            i += 16;
+        } else {
+            take_sixteen(field, at, SIX as usize, room, i);
+            at += size * 2;
+            i += 16;
+        }
     }
     take_each(&field[at..], size, count - i, &mut room[i..]);
 }

@@ -1,13 +1,12 @@
 -- `taking::groups::four_of` meets its contract: two pairs side by side, then their words.
 -- Assumes nothing.
 use mathlib.Core.Path.{_≡_, refl, ap, ap₂, _∙_}
-use Prim.Native.Nat.{ℕ, _+_, _-_, _*_, _/_, _%_, _^_, _<_}
+use Prim.Native.Nat.{ℕ, _+_, _-_, _*_, _/_, _%_, _^_}
 use native.Mathlib.Omega.{arith}
 use borrow.Author.Needs.{needs}
 use lib.Pow.{pow-pos}
 use Rattle.bits.specs.Digits.{digits}
 use Rattle.bits.proofs.LawsTurns.{one-shl}
-use Rattle.taking.specs.Halves.{lowBits}
 use Rattle.taking.proofs.LawsFours.{low-short, first-short, second-short, four-words}
 use Rattle.taking.proofs.groups.four_of.Statement.{statement}
 use Rattle.taking.proofs.groups.four_of.Tie as tie

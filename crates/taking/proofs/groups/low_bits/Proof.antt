@@ -1,11 +1,9 @@
 -- `taking::groups::low_bits` meets its contract: the mask keeps the low bits of each half.
 -- Assumes nothing.
-use mathlib.Core.Path.{ap, _∙_}
-use Prim.Native.Nat.{ℕ, _-_, _*_, _^_, _<_}
+
+use Prim.Native.Nat.{_-_}
 use native.Mathlib.Omega.{arith}
-use native.Mathlib.Nat.{lt-of-lt-of-le}
 use borrow.Author.Needs.{needs}
-use lib.Bits.{bitAnd}
 use lib.Pow.{pow-pos, pow-mono}
 use Rattle.bits.proofs.LawsTurns.{one-shl}
 use Rattle.taking.proofs.LawsFours.{low-bits}

@@ -1,13 +1,13 @@
--- `taking::groups::take_groups` meets its contract: each turn keeps the state of EachTurns, and `take_each` takes what is left.
+-- `taking::groups::take_groups` meets its contract: each turn keeps the state of EachTurns, in either arm, and `take_each` takes what is left.
 -- Assumes nothing.
-use mathlib.Core.Path.{_≡_, refl, _∙_}
-use Prim.Native.Nat.{ℕ, _+_, _-_, _*_, _/_, _≤_}
+use mathlib.Core.Path.{_≡_, _∙_}
+use Prim.Native.Nat.{_+_, _-_, _*_, _/_, _≤_}
 use native.Mathlib.Nat.{div-le-self}
 use native.Mathlib.Omega.{arith}
 use lib.ListN.{length, length-drop}
 use borrow.Rule.Slice.PartMut.{same-len-mid}
 use Rattle.bits.proofs.LawsElements.{to-end}
-use Rattle.bits.proofs.LawsFitting.{Grouped, grouped, sixteen-left}
+use Rattle.bits.proofs.LawsFitting.{Grouped, grouped, not-ten, sixteen-left}
 use Rattle.taking.proofs.EachTurns.{State, start}
 use Rattle.taking.proofs.GroupTurns.{within, turn, ends}
 use Rattle.taking.proofs.groups.take_groups.Statement.{statement}
@@ -34,37 +34,76 @@ loop-holds c = start _ _ _ _ (c .before .before .pre .1 .0) (omega (arith, sized
 sub-loop : tie.Need-sub-loop Inv-loop μ-loop
 sub-loop c = c .loop .inv .done
 
-take-turn-requires : tie.Need-take-turn-requires Inv-loop μ-loop
-take-turn-requires c κs =
-    let l = c .before .before in
-    let s = l .before .before .before in
-    let g = sized s in
-    let left = c .before .loop-test .taken in
-    (s .pre .0, (within (l .loop .inv) g left, omega (arith, l .loop .inv .long, s .pre .1 .1, sixteen-left (s .args .size) (s .args .count - l .loop .i) g left)))
+-- what a turn knows: sixteen words are left, and its bytes are there; in an arm the size is a number
+module _ (c : tie.In-loop Inv-loop μ-loop) where
+  sixteen : 16 ≤ c .before .before .before .before .args .count - c .before .loop .i
+  sixteen = sixteen-left (c .before .before .before .before .args .size) _ (sized (c .before .before .before .before)) (c .loop-test .taken)
+
+  bytes : c .before .loop .at + c .before .before .before .before .args .size / 2 * 3 + 8 ≤ length (c .before .before .before .before .args .field .now)
+  bytes = within (c .before .loop .inv) (sized (c .before .before .before .before)) (c .loop-test .taken)
+
+  after : c .before .loop .at + c .before .before .before .before .args .size * 2 ≤ length (c .before .before .before .before .args .field .now)
+  after = let g = sized (c .before .before .before .before) in omega (arith, g .most, g .even, bytes)
+
+six : (c : tie.Else1 Inv-loop μ-loop) → c .before .before .before .before .before .args .size ≡ 6
+six c = not-ten (c .before .before .before .before .before .pre .0) (c .if1 .left)
+
+cast-if1 : tie.Need-cast-if1 Inv-loop μ-loop
+cast-if1 c = omega arith
+
+cast-take-sixteen : tie.Need-cast-take-sixteen Inv-loop μ-loop
+cast-take-sixteen c = omega arith
+
+take-sixteen-requires : tie.Need-take-sixteen-requires Inv-loop μ-loop
+take-sixteen-requires c κs =
+    let turn = c .before .before in
+    let s = turn .before .before .before .before in
+    ((omega arith, omega arith), (omega arith, (omega (arith, c .before .if1 .taken, bytes turn), omega (arith, turn .before .loop .inv .long, s .pre .1 .1, sixteen turn))))
 
 mul-at : tie.Need-mul-at Inv-loop μ-loop
-mul-at c = omega (arith, sized (c .before .before .before .before .before .before .before .before) .most)
+mul-at c = omega (arith, after (c .before .before .before .before .before))
 
 add-at : tie.Need-add-at Inv-loop μ-loop
-add-at c =
-    let l = c .before .before .before .before .before in
-    let g = sized (l .before .before .before) in
-    omega (arith, g .most, g .even, within (l .loop .inv) g (c .before .before .before .before .loop-test .taken))
-
-sixteen : (c : tie.In-loop Inv-loop μ-loop) → 16 ≤ c .before .before .before .before .args .count - c .before .loop .i
-sixteen c = sixteen-left (c .before .before .before .before .args .size) _ (sized (c .before .before .before .before)) (c .loop-test .taken)
+add-at c = omega (arith, after (c .before .before .before .before .before))
 
 add-i : tie.Need-add-i Inv-loop μ-loop
-add-i c = omega (arith, sixteen (c .before .before .before .before))
+add-i c = omega (arith, sixteen (c .before .before .before .before .before))
 
 loop-less : tie.Need-loop-less Inv-loop μ-loop
-loop-less c = omega (arith, sixteen (c .before .before .before .before))
+loop-less c = omega (arith, sixteen (c .before .before .before .before .before))
 
 loop-again : tie.Need-loop-again Inv-loop μ-loop
 loop-again c =
-    let l = c .before .before .before .before .before in
-    let s = l .before .before .before in
-    turn (l .loop .inv) (sized s) (c .before .before .before .before .loop-test .taken) (s .pre .1 .1) (c .before .before .take-turn .ensures)
+    let test = c .before .before .before .before .before in
+    let s = test .before .before .before .before in
+    turn (test .before .loop .inv) (sized s) (test .loop-test .taken) (s .pre .1 .1) (c .before .before .before .before .if1 .taken) (c .before .before .take-sixteen .ensures)
+
+cast-take-sixteen-2 : tie.Need-cast-take-sixteen-2 Inv-loop μ-loop
+cast-take-sixteen-2 c = omega arith
+
+take-sixteen-requires-2 : tie.Need-take-sixteen-requires-2 Inv-loop μ-loop
+take-sixteen-requires-2 c κs =
+    let turn = c .before .before in
+    let s = turn .before .before .before .before in
+    ((omega arith, omega arith), (omega arith, (omega (arith, six (c .before), bytes turn), omega (arith, turn .before .loop .inv .long, s .pre .1 .1, sixteen turn))))
+
+mul-at-2 : tie.Need-mul-at-2 Inv-loop μ-loop
+mul-at-2 c = omega (arith, after (c .before .before .before .before .before))
+
+add-at-2 : tie.Need-add-at-2 Inv-loop μ-loop
+add-at-2 c = omega (arith, after (c .before .before .before .before .before))
+
+add-i-2 : tie.Need-add-i-2 Inv-loop μ-loop
+add-i-2 c = omega (arith, sixteen (c .before .before .before .before .before))
+
+loop-less-2 : tie.Need-loop-less-2 Inv-loop μ-loop
+loop-less-2 c = omega (arith, sixteen (c .before .before .before .before .before))
+
+loop-again-2 : tie.Need-loop-again-2 Inv-loop μ-loop
+loop-again-2 c =
+    let test = c .before .before .before .before .before in
+    let s = test .before .before .before .before in
+    turn (test .before .loop .inv) (sized s) (test .loop-test .taken) (s .pre .1 .1) (six (c .before .before .before .before)) (c .before .before .take-sixteen2 .ensures)
 
 sub-take-each : tie.Need-sub-take-each Inv-loop μ-loop
 sub-take-each c = omega arith
@@ -116,12 +155,21 @@ take-groups-spec =
     add-least
     loop-holds
     sub-loop
-    take-turn-requires
+    cast-if1
+    cast-take-sixteen
+    take-sixteen-requires
     mul-at
     add-at
     add-i
     loop-less
     loop-again
+    cast-take-sixteen-2
+    take-sixteen-requires-2
+    mul-at-2
+    add-at-2
+    add-i-2
+    loop-less-2
+    loop-again-2
     sub-take-each
     part-take-each-start
     part-take-each-end
