@@ -1,3 +1,4 @@
 pub mod LawsFours
 pub mod EachTurns
+pub mod ZeroTurns
 pub mod GroupTurns

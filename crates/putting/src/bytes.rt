@@ -1,5 +1,5 @@
 // The quick way for words of eight bits: each is a byte, and a compiler puts many at a time.
-use crate::zeros::clear;
+use crate::each::put_plain;
 ghost use mathlib.Core.Path.{_≡_};
 ghost use Prim.Native.Nat.{_≤_};
 ghost use lib.ListN.{length};
@@ -21,11 +21,13 @@ fn put_front(words: &[u16], field: &mut [u8])
     }
 }
 
+// Behind the words no word is left to put, and zeros are.
 pub(crate) fn put_bytes(words: &[u16], field: &mut [u8])
     requires { ⌜ length (now words) ≤ length (now field) ⌝ }
     requires { ⌜ Below 256 (now words) ⌝ }
     ensures { λ _. ⌜ now (field .exit) ≡ fieldOf 8 (length (now (field .entry))) (now (words .entry)) ⌝ }
 {
     put_front(words, field);
-    clear(field, words.len());
+    let count = words.len();
+    put_plain(&words[count..], EIGHT as usize, &mut field[count..]);
 }

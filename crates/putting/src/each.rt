@@ -34,7 +34,7 @@ fn put_each(words: &[u16], size: usize, field: &mut [u8])
     }
 }
 
-// The same, and the bytes behind the last word many at a time: first they are cleared, then the words are put into those that they need.
+// The same, and the bytes behind the last word many at a time: all but the first few are cleared, then the words are put in front of them.
 pub(crate) fn put_plain(words: &[u16], size: usize, field: &mut [u8])
     requires { ⌜ (1 ≤ size) × (size ≤ 16) ⌝ }
     requires { ⌜ length (now words) * size ≤ length (now field) * 8 ⌝ }
@@ -43,6 +43,12 @@ pub(crate) fn put_plain(words: &[u16], size: usize, field: &mut [u8])
 {
     let count = words.len();
     let end = count / 8 * size + (count % 8 * size + 7) / 8;
-    clear(field, end);
-    put_each(words, size, &mut field[..end]);
+    let behind = field.len() - end;
+    if behind == 0 {
+        put_each(words, size, field);
+        return;
+    }
+    let from = end + (behind - 1) % 15;
+    clear(field, from);
+    put_each(words, size, &mut field[..from]);
 }

@@ -1,6 +1,7 @@
 // The quick way for words of six and of ten bits: four words are a group of half their size in bytes, and four groups go at once. It is
 // proved over the size, and leaves in the field what `each` would; whoever wants to know what that is can pass this file by.
 use crate::each::put_plain;
+use crate::eight::put_eight;
 ghost use mathlib.Core.Path.{_≡_};
 ghost use mathlib.Core.List.{_++_};
 ghost use mathlib.Core.Logic.{_⊎_};
@@ -36,21 +37,6 @@ fn group_from(words: &[u16], i: usize, size: usize) -> u64
     ensures { λ q. ⌜ digits 256 8 q ≡ fieldOf size 8 (take 4 (drop i (now (words .entry)))) ⌝ }
 {
     bits::turned(joined(words, i, size))
-}
-
-// The eight bytes of `x` into the field from `at` on: for a compiler this is one store.
-fn put_eight(x: u64, field: &mut [u8], at: usize)
-    requires { ⌜ at + 8 ≤ length (now field) ⌝ }
-    ensures { λ _. ⌜ now (field .exit) ≡ laid (now (field .entry)) at (digits 256 8 x) ⌝ }
-{
-    field[at] = (x % 0x100) as u8;
-    field[at + 1] = ((x >> 8) % 0x100) as u8;
-    field[at + 2] = ((x >> 16) % 0x100) as u8;
-    field[at + 3] = ((x >> 24) % 0x100) as u8;
-    field[at + 4] = ((x >> 32) % 0x100) as u8;
-    field[at + 5] = ((x >> 40) % 0x100) as u8;
-    field[at + 6] = ((x >> 48) % 0x100) as u8;
-    field[at + 7] = ((x >> 56) % 0x100) as u8;
 }
 
 // Sixteen words from `i` on, into the field from byte `at` on. What a store leaves behind its group, the next one overwrites; behind the

@@ -8,6 +8,7 @@ ghost use Rattle.bits.specs.Fields.{putAnswer, fieldPut, fieldOf};
 
 mod bytes;
 mod each;
+mod eight;
 mod fitting;
 mod groups;
 mod zeros;

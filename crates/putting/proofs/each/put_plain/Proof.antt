@@ -1,4 +1,4 @@
--- `putting::each::put_plain` meets its contract: the words in the bytes that they need, and zeros behind these.
+-- `putting::each::put_plain` meets its contract: the words in the bytes that they need and a few more, and zeros behind these.
 -- Assumes nothing.
 use mathlib.Core.Path.{_≡_, sym, ap, ap₂, _∙_, subst}
 use mathlib.Core.List.{List, _++_}
@@ -13,9 +13,12 @@ use Rattle.bits.proofs.LawsFitting.{end-fits, end-enough, rest-short}
 use Rattle.putting.proofs.each.put_plain.Statement.{statement}
 use Rattle.putting.proofs.each.put_plain.Tie as tie
 
--- the bytes that n words need
+-- the bytes that n words need, and where zeros begin that are cleared many at a time
 end : ℕ → ℕ → ℕ
 end n size = n / 8 * size + (n % 8 * size + 7) / 8
+
+from : ℕ → ℕ → ℕ → ℕ
+from n size len = end n size + (len - end n size - 1) % 15
 
 module _ (s : tie.Start) where
   n : ℕ
@@ -31,6 +34,14 @@ module _ (s : tie.Start) where
   short : n % 8 * s .args .size ≤ 7 * 255
   unfolding n
   short = rest-short (length (s .args .words .now)) (s .args .size) 0 (omega (arith, s .pre .0))
+
+  enough : n * s .args .size ≤ from n (s .args .size) len * 8
+  unfolding end from n len
+  enough = omega (arith, end-enough (length (s .args .words .now)) (s .args .size) 0)
+
+  at-most : (len - end n (s .args .size) ≡ 0 → ⊥) → from n (s .args .size) len ≤ len
+  unfolding end from n len
+  at-most h = omega (arith, inside)
 
 mul-end : tie.Need-mul-end
 unfolding end n len
@@ -48,9 +59,9 @@ add-end-2 : tie.Need-add-end-2
 unfolding end n len
 add-end-2 c = omega (arith, inside (c .before .before))
 
-clear-requires : tie.Need-clear-requires
+sub-behind : tie.Need-sub-behind
 unfolding end n len
-clear-requires c κs = inside (c .before .before .before)
+sub-behind c = inside (c .before .before)
 
 -- the front of the field when it is cleared
 module _ (at : ℕ) (field cleared : List ℕ) (fits : at ≤ length field) (says : cleared ≡ take at field ++ replicate (length field - at) 0) where
@@ -67,30 +78,25 @@ module _ (at : ℕ) (field cleared : List ℕ) (fits : at ≤ length field) (say
       ap₂ (λ (x y : List ℕ). x ++ y) (e ∙ ap (λ (m : ℕ). fieldOf size m ws) front) behind
       ∙ sym (fieldOf-longer size at (length field - at) ws h) ∙ ap (λ (m : ℕ). fieldOf size m ws) all
 
-slice-relend-prefix-put-each : tie.Need-slice-relend-prefix-put-each
-unfolding end n len
-slice-relend-prefix-put-each c = omega (arith, c .before .before .clear .kept .0, inside (c .before .before .before .before .before .before))
-
 slice-aggregate-put-each : tie.Need-slice-aggregate-put-each
-unfolding end n len
+unfolding end from n len
 slice-aggregate-put-each c =
-    let s = c .before .before .before .before .before .before .before in
-    sym (front (end (n s) (s .args .size)) (s .args .field .now) _ (inside s) (c .before .before .before .clear .ensures))
+    let s = c .before .before .before .before .before .before .before .before in
+    sym (front (from (n s) (s .args .size) (len s)) (s .args .field .now) _ (at-most s (c .before .before .before .before .before .if1 .left)) (c .before .before .before .clear .ensures))
 
-put-each-requires : tie.Need-put-each-requires
-unfolding end n len
-put-each-requires c κs =
-    let s = c .before .before .before .before .before .before .before in
-    let at = end (n s) (s .args .size) in
-    let long = front at (s .args .field .now) _ (inside s) (c .before .before .before .clear .ensures) in
-    (s .pre .0, (subst (λ (m : ℕ). n s * s .args .size ≤ m * 8) (sym long) (end-enough (length (s .args .words .now)) (s .args .size) 0), s .pre .1 .1))
+put-each-requires-2 : tie.Need-put-each-requires-2
+unfolding end from n len
+put-each-requires-2 c κs =
+    let s = c .before .before .before .before .before .before .before .before in
+    let long = front (from (n s) (s .args .size) (len s)) (s .args .field .now) _ (at-most s (c .before .before .before .before .before .if1 .left)) (c .before .before .before .clear .ensures) in
+    (s .pre .0, (subst (λ (m : ℕ). n s * s .args .size ≤ m * 8) (sym long) (enough s), s .pre .1 .1))
 
-returns : tie.Need-returns
-unfolding end n len
-returns c =
-    let s = c .before .before .before .before .before .before .before .before .before .before in
-    both (end (n s) (s .args .size)) (s .args .field .now) _ (inside s) (c .before .before .before .before .before .before .clear .ensures) (s .args .size) (s .args .words .now) _
-    (end-enough (length (s .args .words .now)) (s .args .size) 0) (c .before .before .put-each .ensures)
+returns-2 : tie.Need-returns-2
+unfolding end from n len
+returns-2 c =
+    let s = c .before .before .before .before .before .before .before .before .before .before .before in
+    both (from (n s) (s .args .size) (len s)) (s .args .field .now) _ (at-most s (c .before .before .before .before .before .before .before .before .if1 .left))
+    (c .before .before .before .before .before .before .clear .ensures) (s .args .size) (s .args .words .now) _ (enough s) (c .before .before .put-each2 .ensures)
 
 pub put-plain-spec : {M : Type 1} → statement M
 put-plain-spec =
@@ -100,9 +106,15 @@ put-plain-spec =
     mul-end-2
     add-end
     add-end-2
-    clear-requires
-    slice-relend-prefix-put-each
-    slice-aggregate-put-each
-    put-each-requires
+    sub-behind
+    (λ c κs. search needs)
     (λ c. search needs)
-    returns)
+    (λ c. search needs)
+    (λ c. search needs)
+    (λ c. search needs)
+    (λ c κs. search needs)
+    (λ c. search needs)
+    slice-aggregate-put-each
+    put-each-requires-2
+    (λ c. search needs)
+    returns-2)

@@ -1,75 +1,57 @@
--- `putting::zeros::clear` meets its contract: zeros are laid from the start on.
+-- `putting::zeros::clear` meets its contract: each turn keeps the state of ZeroTurns, and one byte is left behind the last.
 -- Assumes nothing.
-use mathlib.Core.Path.{_≡_, refl, sym, ap, _∙_}
-use mathlib.Core.List.{List, _++_, append-nil}
-use Prim.Native.Nat.{ℕ, _+_, _-_, _≤_}
+use mathlib.Core.Path.{_∙_}
+use Prim.Native.Nat.{_+_, _-_, _≤_}
 use native.Mathlib.Omega.{arith}
-use lib.ListN.{length, take, set, replicate, length-set, length-replicate, replicate-append-replicate, drop-of-length-le}
-use Rattle.room.specs.Laid.{laid}
-use Rattle.room.proofs.LawsLaid.{laid-nil, laid-snoc}
+use lib.ListN.{length, length-set}
+use Rattle.putting.proofs.ZeroTurns.{State, start, turn, finish}
 use Rattle.putting.proofs.zeros.clear.Statement.{statement}
 use Rattle.putting.proofs.zeros.clear.Tie as tie
 
 abbrev Inv-loop : tie.InvT-loop
-Inv-loop field₀ start k₀ field k =
-    (start ≤ k) × ((k ≤ length field₀) × ((field ≡ laid field₀ start (replicate (k - start) 0)) × (length field ≡ length field₀)))
+Inv-loop field₀ from k₀ field k = State field₀ field from k
 
 abbrev μ-loop : tie.MeasureT-loop
-μ-loop field₀ start k₀ field k = length field₀ - k
+μ-loop field₀ from k₀ field k = length field₀ - k
 
 loop-holds : tie.Need-loop-holds Inv-loop μ-loop
-loop-holds c =
-    let a = c .args in
-    let z : a .start - a .start ≡ 0 = omega arith in
-    (omega arith, (c .pre, (sym (ap (λ (n : ℕ). laid (a .field .now) (a .start) (replicate n 0)) z ∙ laid-nil (a .field .now) (a .start)), refl)))
+loop-holds c = start _ _ (c .before .pre .0) (c .before .pre .1)
 
-slice-write-field : tie.Need-slice-write-field Inv-loop μ-loop
-slice-write-field c = omega arith
+sub-loop : tie.Need-sub-loop Inv-loop μ-loop
+sub-loop c = omega (arith, c .loop .inv .long, c .loop .inv .here)
+
+put-eight-requires : tie.Need-put-eight-requires Inv-loop μ-loop
+put-eight-requires c κs = omega (arith, c .before .loop-test .taken)
+
+-- where a turn is made, its sixteen bytes are in the field as it was
+sixteen : (c : tie.In-loop Inv-loop μ-loop) → c .before .loop .k + 16 ≤ length (c .before .before .before .args .field .now)
+sixteen c = omega (arith, c .before .loop .inv .long, c .loop-test .taken)
+
+add-put-eight : tie.Need-add-put-eight Inv-loop μ-loop
+add-put-eight c = omega (arith, sixteen (c .before .before .before .before .before))
+
+put-eight-requires-2 : tie.Need-put-eight-requires-2 Inv-loop μ-loop
+put-eight-requires-2 c κs = omega (arith, c .before .before .before .put-eight .kept .1 .0, c .before .before .before .before .before .loop-test .taken)
 
 add-k : tie.Need-add-k Inv-loop μ-loop
-add-k c = omega arith
+add-k c = omega (arith, sixteen (c .before .before .before .before .before .before .before .before))
 
 loop-less : tie.Need-loop-less Inv-loop μ-loop
-loop-less c = omega arith
-
--- one zero more
-more : (field : List ℕ) (start k : ℕ) → start ≤ k → k + 1 ≤ length field
-    → set (laid field start (replicate (k - start) 0)) k 0 ≡ laid field start (replicate (k + 1 - start) 0)
-more field start k h l =
-    let zeros : List ℕ = replicate (k - start) 0 in
-    let n : length zeros ≡ k - start = length-replicate (k - start) 0 in
-    let e : k ≡ start + length zeros = omega arith in
-    let f : (k - start) + 1 ≡ k + 1 - start = omega arith in
-    ap (λ (m : ℕ). set (laid field start zeros) m 0) e
-    ∙ laid-snoc field start zeros 0 (omega arith)
-    ∙ ap (laid field start) (replicate-append-replicate (k - start) 1 0 ∙ ap (λ (m : ℕ). replicate m 0) f)
+loop-less c = omega (arith, sixteen (c .before .before .before .before .before .before .before .before))
 
 loop-again : tie.Need-loop-again Inv-loop μ-loop
 loop-again c =
-    let l = c .before .loop in
-    let a = c .before .before .args in (
-      omega arith,
-      (
-        omega arith,
-        (ap (λ (r : List ℕ). set r (l .k) 0) (l .inv .1 .1 .0) ∙ more (a .field .now) (a .start) (l .k) (l .inv .0) (omega arith), length-set (l .field) (l .k) 0 ∙ l .inv .1 .1 .1),
-      ),
-    )
+    let l = c .before .before .before .before .before .before .before .before .before in
+    turn (l .loop .inv) (c .before .before .before .before .before .before .before .before .loop-test .taken) (c .before .before .before .before .before .before .put-eight .ensures) (c .before .before .put-eight2 .ensures)
+
+slice-write-field : tie.Need-slice-write-field Inv-loop μ-loop
+slice-write-field c = omega (arith, c .before .loop .inv .long, c .before .loop .inv .here)
 
 same-length : tie.Need-same-length Inv-loop μ-loop
-same-length c = c .before .loop .inv .1 .1 .1
+same-length c = length-set (c .before .loop .field) (c .before .loop .k) 0 ∙ c .before .loop .inv .long
 
 returns : tie.Need-returns Inv-loop μ-loop
-returns c =
-    let l = c .before .loop in
-    let a = c .before .before .args in
-    let field = a .field .now in
-    let e : l .k ≡ length field = omega arith in
-    let zeros : List ℕ = replicate (length field - a .start) 0 in
-    let past : length field ≤ a .start + length zeros = omega (arith, length-replicate {A = ℕ} (length field - a .start) 0) in
-    l .inv .1 .1 .0
-    ∙ ap (λ (n : ℕ). laid field (a .start) (replicate (n - a .start) 0)) e
-    ∙ ap (λ (r : List ℕ). take (a .start) field ++ (zeros ++ r)) (drop-of-length-le field past)
-    ∙ ap (λ (r : List ℕ). take (a .start) field ++ r) (append-nil zeros)
+returns c = finish (c .before .loop .inv) (c .loop-test .left)
 
 pub clear-spec : {M : Type 1} → statement M
 clear-spec =
@@ -78,9 +60,13 @@ clear-spec =
     Inv-loop
     μ-loop
     loop-holds
-    slice-write-field
+    sub-loop
+    put-eight-requires
+    add-put-eight
+    put-eight-requires-2
     add-k
     loop-less
     loop-again
+    slice-write-field
     same-length
     returns)

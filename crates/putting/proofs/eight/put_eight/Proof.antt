@@ -1,4 +1,4 @@
--- `putting::groups::put_eight` meets its contract: eight stores, one behind the other.
+-- `putting::eight::put_eight` meets its contract: eight stores, one behind the other.
 -- Assumes nothing.
 use mathlib.Core.Path.{sym, ap, _∙_}
 use mathlib.Core.List.{[], _∷_, append-assoc}
@@ -10,8 +10,8 @@ use lib.ListN.{take, drop, length-set}
 use lib.Seq.{sets-eq}
 use Rattle.room.specs.Laid.{laid}
 use Rattle.putting.proofs.LawsFours.{eight-digits}
-use Rattle.putting.proofs.groups.put_eight.Statement.{statement}
-use Rattle.putting.proofs.groups.put_eight.Tie as tie
+use Rattle.putting.proofs.eight.put_eight.Statement.{statement}
+use Rattle.putting.proofs.eight.put_eight.Tie as tie
 
 returns : tie.Need-returns
 returns c =
