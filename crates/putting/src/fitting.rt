@@ -26,8 +26,8 @@ fn wide(word: u16) -> u32
     word as u32
 }
 
-// The bits of all words joined, three thirds side by side, and the last words one by one. There is no way out before the end, so that a
-// compiler takes many words at a time; three, so that one third need not wait for the other.
+// The bits of all words joined, three thirds side by side, and the last words, two at most, one by one. The loop has no way out before its
+// end, so that a compiler takes many words at a time; one row of words would wait at each step for its own last result.
 pub(crate) fn all_fit(words: &[u16], size: u8) -> bool
     requires { ⌜ size ≤ 16 ⌝ }
     ensures { λ r. ⌜ r ≡ allFit size (now (words .entry)) ⌝ }
