@@ -12,7 +12,8 @@ use Rattle.ground.specs.Choice.{pick}
 use Rattle.ground.proofs.LawsChoice.{either}
 use Rattle.room.specs.Laid.{inside, laidInside}
 use Rattle.recording.specs.declared.Line.{Line}
-use Rattle.listing.specs.Texts.{decimal, ended, lastWord, blockText, refusalText, firstText, lineText, lastText, putLength}
+use Rattle.text.specs.Texts.{decimal, ended, putLength}
+use Rattle.listing.specs.Texts.{lastWord, blockText, refusalText, firstText, lineText, lastText}
 use Rattle.listing.proofs.LawsTexts.{word-long}
 use Rattle.c_recording.specs.Told.{putNumber, numberBy}
 

@@ -8,7 +8,7 @@ use lib.ListN.{length, take, drop}
 use Rattle.room.specs.Laid.{laidInside}
 use Rattle.recording.specs.Found.{foundAt}
 use Rattle.recording.specs.Fields.{Field, written, joined}
-use Rattle.listing.specs.Texts.{putLength}
+use Rattle.text.specs.Texts.{putLength}
 use Rattle.c_recording.specs.Told.{codeOf, lineFrom, putNumber}
 
 -- Nothing more is 0, a whole field is 1, and a recording that stops inside a field, behind its first byte at least, is 2.

@@ -10,8 +10,9 @@ use lib.Dec.{eqb}
 use lib.ListN.{length, length-append}
 use Rattle.ground.proofs.LawsChoice.{yes, either}
 use Rattle.recording.specs.declared.Line.{Line}
-use Rattle.listing.specs.Texts.{decimal, blockText, refusalText, lineText, lastWord, lastText, putLength}
-use Rattle.listing.proofs.LawsDecimal.{decimal-fits}
+use Rattle.text.specs.Texts.{decimal, putLength}
+use Rattle.listing.specs.Texts.{blockText, refusalText, lineText, lastWord, lastText}
+use Rattle.text.proofs.LawsDecimal.{decimal-fits}
 use Rattle.listing.proofs.LawsTexts.{word-long, refusal-columns}
 
 -- a text of some bytes, and of no more than there is room for

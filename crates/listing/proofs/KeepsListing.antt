@@ -13,7 +13,8 @@ use Rattle.recording.specs.Fields.{Field, Recording, written, joined, readUpTo,
 use Rattle.recording.specs.Lines.{seqAfter, refusedLine, lineOf}
 use Rattle.recording.specs.declared.Line.{Line}
 use Rattle.recording.proofs.KeepsLines.{gives-fields, block-line, refused-line, other-line, short-line}
-use Rattle.listing.specs.Texts.{bytesOf, digits, decimal, firstText, blockText, refusalText, lineText, lastText, linesText, listingOf}
+use Rattle.text.specs.Texts.{bytesOf, digits, decimal}
+use Rattle.listing.specs.Texts.{firstText, blockText, refusalText, lineText, lastText, linesText, listingOf}
 use Rattle.listing.specs.Promises.{PrintsExample, PrintsEmpty, PrintsCut, PrintsDashes}
 
 -- the text of a refusal

@@ -1,4 +1,3 @@
 pub mod KeepsListing
 pub mod KeepsProgram
-pub mod LawsDecimal
 pub mod LawsTexts

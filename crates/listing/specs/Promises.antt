@@ -1,11 +1,11 @@
 -- What the listing prints: the scope's example, an empty recording, a cut one, a refusal; and what a program prints that asks for one field
 -- after the other.
 -- Assumes nothing.
-use Prim.Native.Nat.{ℕ, _+_, _-_, _*_, _<_, _≤_}
+use Prim.Native.Nat.{ℕ, _+_, _<_, _≤_}
 use mathlib.Core.Path.{_≡_}
 use mathlib.Core.Bool.{true, false}
-use mathlib.Core.List.{List, [], _∷_, _++_}
-use lib.ListN.{length, take, drop, getD}
+use mathlib.Core.List.{List, [], _++_}
+use lib.ListN.{length, take, drop}
 use Rattle.bits.specs.Bits.{Below}
 use Rattle.block.specs.Answers.{answerOf}
 use Rattle.block.specs.Meets.{Meets}
@@ -13,17 +13,8 @@ use Rattle.recording.specs.Found.{foundAt}
 use Rattle.recording.specs.Fields.{Field, written, joined}
 use Rattle.recording.specs.Lines.{mostFields, seqAfter, lineOf}
 use Rattle.recording.specs.declared.Found.the-variants.{Whole, Cut, End}
-use Rattle.listing.specs.Texts.{bytesOf, decimal, firstText, lineText, lastText, listing}
-
--- the number that digits spell behind so much of it
-abbrev pub spelled : ℕ → List ℕ → ℕ
-spelled n [] = n
-spelled n (d ∷ ds) = spelled (n * 10 + (d - 0x30)) ds
-
--- A number's digits spell it, and the first one is no zero but of 0.
-pub record SpellsNumbers : Type 0 where
-  pub says : (n : ℕ) → spelled 0 (decimal n) ≡ n
-  pub leading : (n : ℕ) → 0 < n → 0x31 ≤ getD (decimal n) 0 0
+use Rattle.text.specs.Texts.{bytesOf, decimal}
+use Rattle.listing.specs.Texts.{firstText, lineText, lastText, listing}
 
 -- The scope's example, two fields with tag 1: the first an acceptable block 3 of version 2 with C = 20, the second of 89 bytes.
 abbrev pub PrintsExample : Type 0

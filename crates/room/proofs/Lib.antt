@@ -1,1 +1,2 @@
 pub mod LawsLaid
+pub mod LawsWritten

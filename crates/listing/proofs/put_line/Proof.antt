@@ -5,7 +5,7 @@ use native.Mathlib.Omega.{arith}
 use lib.ListN.{replicate}
 use lib.Seq.{length-take-le}
 use Rattle.listing.specs.Texts.{lineText}
-use Rattle.listing.proofs.LawsTexts.{Put, into}
+use Rattle.text.proofs.LawsPut.{Put, into}
 use borrow.Author.Needs.{needs}
 use Rattle.listing.proofs.put_line.Statement.{statement}
 use Rattle.listing.proofs.put_line.Tie as tie

@@ -1,8 +1,8 @@
 -- `listing::spell_block` meets its contract: each column stands behind those before it.
 -- Assumes nothing.
 use native.Mathlib.Omega.{arith}
-use Rattle.listing.specs.Texts.{decimal, ended}
-use Rattle.listing.proofs.LawsTexts.{nothing, more, as-text, block-columns}
+use Rattle.text.proofs.LawsPut.{nothing, more-column, as-text}
+use Rattle.listing.proofs.LawsTexts.{block-columns}
 use borrow.Author.Needs.{needs}
 use Rattle.listing.proofs.spell_block.Statement.{statement}
 use Rattle.listing.proofs.spell_block.Tie as tie
@@ -36,17 +36,19 @@ same-length c = search needs
 
 returns : tie.Need-returns
 returns c =
-    let a = c .before .before .before .before .before .before .before .before .before .before .before .before .before .before .before .before .before .before .before .before .before .before .before .before .args in
+    let begin = c .before .before .before .before .before .before .before .before .before .before .before .before .before .before .before .before .before .before .before .before .before .before .before .before in
+    let a = begin .args in
+    let lent = begin .pre in
     let first = c .before .before .before .before .before .before .before .before .before .before .before .before .before .before .before .before .before .before .before .before .before .put-column in
     let second = c .before .before .before .before .before .before .before .before .before .before .before .before .before .before .before .before .put-column2 in
     let third = c .before .before .before .before .before .before .before .before .before .before .before .put-column3 in
     let fourth = c .before .before .before .before .before .before .before .put-column4 in
     let fifth = c .before .before .put-column5 in
-    let one = more (nothing (a .text .now)) (ended (decimal (a .line .seq)) 0x20) (first .ensures .0) (first .ensures .1 .1) in
-    let two = more one (ended (decimal (a .line .block)) 0x20) (second .ensures .0) (second .ensures .1 .1) in
-    let three = more two (ended (decimal (a .line .version)) 0x20) (third .ensures .0) (third .ensures .1 .1) in
-    let four = more three (ended (decimal (a .line .words)) 0x20) (fourth .ensures .0) (fourth .ensures .1 .1) in
-    let five = as-text (more four (ended (decimal (a .line .answer)) 0x0A) (fifth .ensures .0) (fifth .ensures .1 .1)) (block-columns (a .line)) in
+    let one = more-column (nothing (a .text .now)) (a .line .seq) 0x20 (omega arith) (first .ensures .0) (first .ensures .1 .0) (omega arith) in
+    let two = more-column one (a .line .block) 0x20 (omega arith) (second .ensures .0) (second .ensures .1 .0) (omega arith) in
+    let three = more-column two (a .line .version) 0x20 (omega arith) (third .ensures .0) (third .ensures .1 .0) (omega arith) in
+    let four = more-column three (a .line .words) 0x20 (omega arith) (fourth .ensures .0) (fourth .ensures .1 .0) (omega arith) in
+    let five = as-text (more-column four (a .line .answer) 0x0A (omega arith) (fifth .ensures .0) (fifth .ensures .1 .0) (omega arith)) (block-columns (a .line)) in
     (five .ends, (omega arith, five .says))
 
 pub spell-block-spec : {M : Type 1} → statement M

@@ -4,7 +4,7 @@ use mathlib.Core.Path.{refl}
 use borrow.Author.Tests.{eq-eqb, ne-eqb}
 use Rattle.ground.proofs.LawsChoice.{yes, no}
 use Rattle.listing.specs.Texts.{lineText}
-use Rattle.listing.proofs.LawsTexts.{as-text}
+use Rattle.text.proofs.LawsPut.{as-text}
 use borrow.Author.Needs.{needs}
 use Rattle.listing.proofs.spell_line.Statement.{statement}
 use Rattle.listing.proofs.spell_line.Tie as tie

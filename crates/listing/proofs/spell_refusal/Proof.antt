@@ -1,9 +1,9 @@
 -- `listing::spell_refusal` meets its contract: each column stands behind those before it.
 -- Assumes nothing.
-use mathlib.Core.Path.{refl}
 use native.Mathlib.Omega.{arith}
-use Rattle.listing.specs.Texts.{bytesOf, decimal, ended}
-use Rattle.listing.proofs.LawsTexts.{nothing, more, lay-more, as-text, refusal-columns}
+use Rattle.text.specs.Texts.{bytesOf}
+use Rattle.text.proofs.LawsPut.{nothing, more, more-column, as-text}
+use Rattle.listing.proofs.LawsTexts.{refusal-columns}
 use borrow.Author.Needs.{needs}
 use Rattle.listing.proofs.spell_refusal.Statement.{statement}
 use Rattle.listing.proofs.spell_refusal.Tie as tie
@@ -11,17 +11,14 @@ use Rattle.listing.proofs.spell_refusal.Tie as tie
 put-column-requires : tie.Need-put-column-requires
 put-column-requires c κs = search needs
 
-slice-aggregate-lay : tie.Need-slice-aggregate-lay
-slice-aggregate-lay c = search needs
+slice-aggregate-put-part : tie.Need-slice-aggregate-put-part
+slice-aggregate-put-part c = search needs
 
-lay-requires : tie.Need-lay-requires
-lay-requires c κs = search needs
+put-part-requires : tie.Need-put-part-requires
+put-part-requires c κs = search needs
 
 cast-put-column : tie.Need-cast-put-column
 cast-put-column c = search needs
-
-add-put-column : tie.Need-add-put-column
-add-put-column c = search needs
 
 put-column-requires-2 : tie.Need-put-column-requires-2
 put-column-requires-2 c κs = search needs
@@ -31,12 +28,15 @@ same-length c = search needs
 
 returns : tie.Need-returns
 returns c =
-    let a = c .before .before .before .before .before .before .before .before .before .before .before .before .before .before .before .args in
+    let begin = c .before .before .before .before .before .before .before .before .before .before .before .before .before .before .before in
+    let a = begin .args in
+    let lent = begin .pre in
     let first = c .before .before .before .before .before .before .before .before .before .before .before .before .put-column in
+    let dashes = c .before .before .before .before .before .before .before .put-part in
     let last = c .before .before .put-column2 in
-    let one = more (nothing (a .text .now)) (ended (decimal (a .line .seq)) 0x20) (first .ensures .0) (first .ensures .1 .1) in
-    let two = lay-more one (bytesOf "- - - ") refl (c .before .before .before .before .before .before .before .lay .ensures .1) (omega arith) in
-    let three = as-text (more two (ended (decimal (a .line .answer)) 0x0A) (last .ensures .0) (last .ensures .1 .1)) (refusal-columns (a .line)) in
+    let one = more-column (nothing (a .text .now)) (a .line .seq) 0x20 (omega arith) (first .ensures .0) (first .ensures .1 .0) (omega arith) in
+    let two = more one (bytesOf "- - - ") (dashes .ensures .0) (dashes .ensures .1 .0) (omega arith) in
+    let three = as-text (more-column two (a .line .answer) 0x0A (omega arith) (last .ensures .0) (last .ensures .1 .0) (omega arith)) (refusal-columns (a .line)) in
     (three .ends, (omega arith, three .says))
 
 pub spell-refusal-spec : {M : Type 1} → statement M
@@ -44,10 +44,9 @@ spell-refusal-spec =
     tie.close
     (tie.spec
     put-column-requires
-    slice-aggregate-lay
-    lay-requires
+    slice-aggregate-put-part
+    put-part-requires
     cast-put-column
-    add-put-column
     put-column-requires-2
     same-length
     returns)

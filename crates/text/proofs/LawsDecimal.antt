@@ -12,8 +12,8 @@ use lib.ListN.{length, getD, drop, set, length-append, length-set, drop-of-lengt
 use lib.Seq.{drop-cons, getD-set-same, drop-set-lt}
 use Rattle.ground.specs.Choice.{pick}
 use Rattle.ground.proofs.LawsChoice.{yes, no}
-use Rattle.listing.specs.Texts.{digit, digits, decimal, ended}
-use Rattle.listing.specs.Promises.{spelled, SpellsNumbers}
+use Rattle.text.specs.Texts.{digit, digits, decimal, ended}
+use Rattle.text.specs.Promises.{spelled, SpellsNumbers}
 
 -- more digits than a number has are no more
 enough : (j k n : ℕ) → n < j → n < k → digits j n ≡ digits k n
@@ -94,19 +94,11 @@ spells-numbers = record {
 -- ---- digits put from the last one on
 
 -- what is put stands behind the digits of the rest, which still fit
-pub record Digits (n : ℕ) (put : List ℕ) (rest at : ℕ) : Type 0 where
-  pub says : decimal n ≡ decimal rest ++ drop at put
+pub record Digits (n end : ℕ) (put : List ℕ) (rest at : ℕ) : Type 0 where
+  pub says : ended (decimal n) end ≡ decimal rest ++ drop at put
   pub fits : length (decimal rest) ≤ at
   pub within : at ≤ 20
-  pub long : length put ≡ 20
-
-pub start : (n : ℕ) (put : List ℕ) → n < 18446744073709551616 → length put ≡ 20 → Digits n put n 20
-start n put h l = record {
-  says = sym (ap (λ (x : List ℕ). decimal n ++ x) (drop-of-length-le put {i = 20} (omega arith)) ∙ append-nil (decimal n));
-  fits = decimal-fits n h;
-  within = omega arith;
-  long = l;
-}
+  pub long : length put ≡ 21
 
 drop-set : (l : List ℕ) (i d : ℕ) → i < length l → drop i (set l i d) ≡ d ∷ drop (i + 1) l
 drop-set l i d h =
@@ -114,7 +106,15 @@ drop-set l i d h =
     drop-cons (set l i d) i 0 (omega (arith, length-set l i d))
     ∙ ap₂ (λ (x : ℕ) (r : List ℕ). x ∷ r) (getD-set-same l i d 0 h) (drop-set-lt (suc i) l i d (omega arith) ∙ ap (λ (k : ℕ). drop k l) e)
 
-module _ {n : ℕ} {put : List ℕ} {rest at : ℕ} (s : Digits n put rest at) where
+pub start : (n end : ℕ) (column : List ℕ) → n < 18446744073709551616 → length column ≡ 21 → Digits n end (set column 20 end) n 20
+start n end column h l = record {
+  says = ap (λ (x : List ℕ). decimal n ++ x) (sym (drop-set column 20 end (omega arith) ∙ ap (λ (x : List ℕ). end ∷ x) (drop-of-length-le column {i = 21} (omega arith))));
+  fits = decimal-fits n h;
+  within = omega arith;
+  long = length-set column 20 end ∙ l;
+}
+
+module _ {n end : ℕ} {put : List ℕ} {rest at : ℕ} (s : Digits n end put rest at) where
   -- there is a place for the next digit
   pub placed : 0 < at
   placed = by (ltb rest 10) refl
@@ -129,7 +129,7 @@ module _ {n : ℕ} {put : List ℕ} {rest at : ℕ} (s : Digits n put rest at) w
       let e : at - 1 + 1 ≡ at = omega arith in
       drop-set put (at - 1) d (omega (arith, s .within, s .long)) ∙ ap (λ (k : ℕ). d ∷ drop k put) e
 
-  pub turn : 10 ≤ rest → Digits n (set put (at - 1) (digit (rest % 10))) (rest / 10) (at - 1)
+  pub turn : 10 ≤ rest → Digits n end (set put (at - 1) (digit (rest % 10))) (rest / 10) (at - 1)
   turn h = record {
     says =
         s .says ∙ ap (λ (l : List ℕ). l ++ drop at put) (decimal-more rest h)
@@ -140,5 +140,5 @@ module _ {n : ℕ} {put : List ℕ} {rest at : ℕ} (s : Digits n put rest at) w
     long = length-set put (at - 1) (digit (rest % 10)) ∙ s .long;
   }
 
-  pub finish : rest < 10 → drop (at - 1) (set put (at - 1) (digit rest)) ≡ decimal n
+  pub finish : rest < 10 → drop (at - 1) (set put (at - 1) (digit rest)) ≡ ended (decimal n) end
   finish h = put-one (digit rest) ∙ sym (s .says ∙ ap (λ (l : List ℕ). l ++ drop at put) (decimal-one rest h))

@@ -1,10 +1,10 @@
--- `listing::put_text` meets its contract: what `lay` answers decides.
+-- `text::put_text` meets its contract: what `lay` answers decides.
 -- Assumes nothing.
 use mathlib.Core.Path.{refl}
 use borrow.Author.Needs.{needs}
 use Rattle.ground.proofs.LawsChoice.{yes, no}
-use Rattle.listing.proofs.put_text.Statement.{statement}
-use Rattle.listing.proofs.put_text.Tie as tie
+use Rattle.text.proofs.put_text.Statement.{statement}
+use Rattle.text.proofs.put_text.Tie as tie
 
 lay-requires : tie.Need-lay-requires
 lay-requires c κs = search needs

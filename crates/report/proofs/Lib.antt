@@ -1,0 +1,3 @@
+pub mod KeepsReport
+pub mod LawsChanged
+pub mod LawsTexts
