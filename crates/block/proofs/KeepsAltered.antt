@@ -31,7 +31,7 @@ use Rattle.block.proofs.KeepsReader.{refuses-in-order, refusal-leaves, 
 
 module _ (Change : List ℕ → List ℕ → Type 0) (found : Found Change) where
   -- where a string passes and, changed, still does, it is the same
-  changed-same : (x y : List ℕ) → Below 256 x → Change x y → Passes generator x → Passes generator y → y ≡ x
+  pub changed-same : (x y : List ℕ) → Below 256 x → Change x y → Passes generator x → Passes generator y → y ≡ x
   changed-same x y b a px py = go (sameAs y x) refl
     where
       go : (t : Bool) → sameAs y x ≡ t → y ≡ x

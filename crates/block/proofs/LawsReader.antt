@@ -73,7 +73,7 @@ module _ (h block room : List ℕ) where
   unfolding judgedBy roomBy
   refused-by e f = (refuses (acceptedJudged h) refusedJudged e f, refuses (wordsLaid h block room) (λ _. room) e f)
 
-  accepted-by : refusalBy h block (length room) ≡ 0 → EndsBy (acceptedJudged h) (wordsLaid h block room)
+  pub accepted-by : refusalBy h block (length room) ≡ 0 → EndsBy (acceptedJudged h) (wordsLaid h block room)
   unfolding judgedBy roomBy
   accepted-by e = (accepts (acceptedJudged h) refusedJudged e, accepts (wordsLaid h block room) (λ _. room) e)
 

@@ -21,6 +21,11 @@ pub fields-even : FieldsEven
 unfolding fieldBytes
 fields-even b n = omega (arith, bits-whole b n)
 
+-- no field is shorter, whatever its block and count
+pub field-least : (b n : ℕ) → 2680 ≤ fieldBytes b n
+unfolding fieldBytes fieldBits
+field-least b n = either (λ (bits : ℕ). 2680 ≤ bits / 8) (eqb b 0 || eqb b 11) (λ _. lit≤ tt) (λ _. omega arith)
+
 -- image words fit the field of blocks 1 to 10
 image-held : (b n : ℕ) → (eqb b 0 || eqb b 11) ≡ false → n ≤ 25152 → Held imageSize n (fieldBytes b n)
 unfolding fieldBytes fieldBits

@@ -1,0 +1,2 @@
+pub mod LawsMade
+pub mod KeepsMade

@@ -1,0 +1,10 @@
+pub mod LawsSearch
+pub mod SearchTurns
+pub mod LawsNotes
+pub mod LawsWrites
+pub mod LawsPieces
+pub mod SalvageTurns
+pub mod LawsAnswers
+pub mod KeepsSearch
+pub mod KeepsRecords
+pub mod KeepsRuins
