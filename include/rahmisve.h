@@ -1,4 +1,4 @@
-/* rahmisve.h: GVAR blocks, recordings of them, CDA time tags and the scan watch, from C. This file is the manual.
+/* rahmisve.h: GVAR blocks, recordings and salvage of them, CDA time tags and the scan watch, from C. This file is the manual.
  *
  * The archive librahmisve.a holds proved code: for every input whatever, a function below answers what its definition says, reads and
  * writes nothing outside the buffers lent to it, and returns. docs/LINKING.md says how to make the archive, how to link it and what it
@@ -6,8 +6,8 @@
  *
  * VERSION. RAHMISVE_VERSION is the version of this file, rahmisve_version() that of the archive. Every change of a signature, a size or a
  * place raises it, every new or changed number of an answer, a verdict or a find, and every change of what a block's row allows or its
- * records hold: 2 gave block 2 its fourth record in version 3 of the format. Where `rahmisve_version() != RAHMISVE_VERSION` the program was
- * built with the header of another archive, and nothing else below may be called.
+ * records hold: 2 gave block 2 its fourth record in version 3 of the format, 3 brought answer 18. Where
+ * `rahmisve_version() != RAHMISVE_VERSION` the program was built with the header of another archive, and nothing else below may be called.
  *
  * ANSWERS. A function returns its answer: 0, which is accepted, or the number of a refusal, each named once in the list below. Of several
  * grounds the first one decides, in the order that stands with the function. Three functions refuse nothing and return something else:
@@ -16,8 +16,8 @@
  *
  * PLACES AND ROOMS. What else belongs to an answer goes to the places that the caller lends for it: `header`, `word_count`, `start` and
  * the like. A place is written on every call, on a refusal with zeros; only `seq` of rahmisve_line has its number then too. A room, which
- * is a `room` or the `field` that rahmisve_put_words fills, is written only by an accepted call; a refusal leaves it, and a watch, as it
- * was, to the bit.
+ * is a `room`, the `field` that rahmisve_put_words fills, or the `recording`, `report` and `scratch` of rahmisve_salvage, is written only
+ * by an accepted call; a refusal leaves it, and a watch, as it was, to the bit.
  *
  * MEMORY. Everything lent belongs to the caller, before and after. The library keeps no pointer, allocates nothing, keeps nothing
  * between calls, has no variables of its own, does no input or output and does not touch errno. So calls may be made from several
@@ -49,7 +49,7 @@ extern "C" {
 
 /* ---- Version -------------------------------------------------------------------------------------------------------------------- */
 
-#define RAHMISVE_VERSION 2
+#define RAHMISVE_VERSION 3
 
 /* The version of the archive that is linked. */
 uint32_t rahmisve_version(void);
@@ -81,7 +81,8 @@ uint32_t rahmisve_version(void);
     ANSWER(LARGE_WORD, 14, "a word too large for its size") \
     ANSWER(OTHER_FIELD, 15, "a field of a recording with another tag than 1") \
     ANSWER(LONG_LIMIT, 16, "a waiting limit above 3,600,000 ms") \
-    ANSWER(OFF_BOUNDARY, 17, "a check word off its 16-bit boundary") /* which no block has: every field is a multiple of 16 bits */
+    ANSWER(OFF_BOUNDARY, 17, "a check word off its 16-bit boundary") /* which no block has: every field is a multiple of 16 bits */ \
+    ANSWER(NO_BLOCK, 18, "no start has an acceptable block")
 
 /* RAHMISVE_ANSWER_ACCEPTED, RAHMISVE_ANSWER_NO_HEADER and so on, and how many numbers there are. */
 #define RAHMISVE_CONSTANT(name, number, text) RAHMISVE_ANSWER_##name = number,
@@ -251,6 +252,45 @@ uint8_t rahmisve_first_text(uint8_t *room, size_t room_length, size_t *bytes);
 uint8_t rahmisve_line_text(uint64_t seq, uint32_t block, uint32_t version, size_t word_count, uint32_t answer, uint8_t *room,
                            size_t room_length, size_t *bytes);
 uint8_t rahmisve_last_text(uint32_t cut, uint64_t fields, uint8_t *room, size_t room_length, size_t *bytes);
+
+/* ---- Salvage -------------------------------------------------------------------------------------------------------------------- */
+
+#define RAHMISVE_LEAST_BYTES 2772 /* bytes of the shortest block */
+#define RAHMISVE_ENTRY_NUMBERS 3  /* an entry of the report: three numbers in a row, of a piece of the input */
+
+/* Places in an entry. */
+#define RAHMISVE_ENTRY_START 0 /* where the piece starts in the input */
+#define RAHMISVE_ENTRY_BYTES 1 /* how many bytes it has there, never 0 */
+#define RAHMISVE_ENTRY_FOUND 2 /* what was found: RAHMISVE_SPAN, or a block with its changed copies */
+
+/* What was found. A block's is the sum over its header copies whose bytes changed, 0 where none did: those that differ from the copy
+ * that was used, whether they passed their checks or not. */
+#define RAHMISVE_CHANGED_FIRST 1
+#define RAHMISVE_CHANGED_SECOND 2
+#define RAHMISVE_CHANGED_THIRD 4
+#define RAHMISVE_SPAN 8 /* no block: a span that was skipped */
+
+/* The rooms for an input of n bytes: the bytes of the recording, and the entries of the report. The scratch words are RAHMISVE_MOST_WORDS,
+ * whatever the input. */
+#define RAHMISVE_SALVAGE_BYTES(n) ((n) + (n) / RAHMISVE_LEAST_BYTES * RAHMISVE_FRONT_BYTES)
+#define RAHMISVE_SALVAGE_ENTRIES(n) ((n) / RAHMISVE_LEAST_BYTES * 2 + 1)
+
+/* Finds the blocks in an input that does not say where they are: bytes as they came, with junk before, between and behind blocks. The
+ * search takes the lowest start from which a header copy that passes, put in all three places, makes an acceptable block; of the three
+ * copies the first that does, whatever the others hold. It goes on behind that block's end.
+ * Accepted, the blocks so made stand at the front of `recording`, each with three equal copies as a field with RAHMISVE_BLOCK_FIELD as its
+ * tag; `bytes` is how long that recording is. At the front of `report` each block has an entry, and so has each span between them, in the
+ * order of the input, which they cover once; there are `entries` of them, and `blocks` of these are blocks. Nothing behind either has
+ * changed. The scratch words are read to: each block's words in turn, at their front and over those of the one before, so that the last
+ * block's stand at the front.
+ * As everywhere, a length counts elements, so of `size_t report[ENTRIES][RAHMISVE_ENTRY_NUMBERS]`
+ *
+ *     report[0], ENTRIES * RAHMISVE_ENTRY_NUMBERS
+ *
+ * is lent, and report[i][RAHMISVE_ENTRY_START] is where piece i starts.
+ * Refusals: 9 where a room is smaller than the input's length asks for above, whatever the input holds; 18. */
+uint8_t rahmisve_salvage(const uint8_t *input, size_t input_length, uint8_t *recording, size_t recording_length, size_t *report,
+                         size_t report_length, uint16_t *scratch, size_t scratch_length, size_t *bytes, size_t *entries, size_t *blocks);
 
 /* ---- What a block is made of ---------------------------------------------------------------------------------------------------- */
 

@@ -99,7 +99,7 @@ module _ {block : List ℕ} (m : Meets block) where
               let f = informationField (fieldBytes (a .block) (a .words)) block in
               behind-last (sent f) i (omega (arith, length-spell 8 f, whole, bits-are, h))
 
-block-meets : {block : List ℕ} → reader.Meets block → Meets block
+pub block-meets : {block : List ℕ} → reader.Meets block → Meets block
 unfolding fieldBytes asks-asked
 block-meets {block} m =
     record {

@@ -74,10 +74,26 @@ settled =
         λ _ _ x y. (same (x .allowed) (y .allowed), refl),
         λ _ _ x y. (same (x .allowed .0) (y .allowed .0), λ i. (tt, (tt, (tt, (same (x .allowed .1) (y .allowed .1) i, tt))))),
       );
+      made = λ _ _ x y. (same (x .allowed .0) (y .allowed .0), λ i. (tt, (tt, (same (x .allowed .1) (y .allowed .1) i, tt))));
+      salvaging =
+          λ _ _ x y. (
+            same (x .allowed .0) (y .allowed .0),
+            λ i. (tt, (same (x .allowed .1 .0) (y .allowed .1 .0) i, (same (x .allowed .1 .1 .0) (y .allowed .1 .1 .0) i, (same (x .allowed .1 .1 .1) (y .allowed .1 .1 .1) i, tt)))),
+          );
+      text = (
+        λ _ _ x y. let p = x .allowed in let q = y .allowed in (same (p .0) (q .0), λ i. (tt, (same (p .1 .0) (q .1 .0) i, (tt, tt)))),
+        λ _ _ x y. let p = x .allowed in let q = y .allowed in (same (p .0) (q .0), λ i. (tt, (tt, (same (p .1 .0) (q .1 .0) i, (tt, tt))))),
+        λ _ _ x y. (same (x .allowed .0) (y .allowed .0), λ i. (tt, (same (x .allowed .1) (y .allowed .1) i, tt))),
+      );
       listing = (
         λ _ _ x y. (same (x .allowed .0) (y .allowed .0), λ i. (same (x .allowed .1) (y .allowed .1) i, tt)),
         λ _ _ x y. (same (x .allowed .0) (y .allowed .0), λ i. (tt, (same (x .allowed .1) (y .allowed .1) i, tt))),
         λ _ _ x y. (same (x .allowed .0) (y .allowed .0), λ i. (tt, (tt, (same (x .allowed .1) (y .allowed .1) i, tt)))),
+      );
+      report = (
+        λ _ _ x y. (same (x .allowed .0) (y .allowed .0), λ i. (same (x .allowed .1) (y .allowed .1) i, tt)),
+        λ _ _ x y. (same (x .allowed .0) (y .allowed .0), λ i. (tt, (tt, (tt, (same (x .allowed .1) (y .allowed .1) i, tt))))),
+        λ _ _ x y. (same (x .allowed .0) (y .allowed .0), λ i. (tt, (same (x .allowed .1) (y .allowed .1) i, tt))),
       );
       c-numbers = (
         λ _ _ x y. (same (x .allowed) (y .allowed), refl),
@@ -122,4 +138,6 @@ settled =
         λ _ _ x y. let p = x .allowed in let q = y .allowed in (same (p .0) (q .0), λ i. (tt, (tt, (tt, (tt, (tt, (same (p .1 .1) (q .1 .1) i, (same (p .1 .0) (q .1 .0) i, tt)))))))),
         λ _ _ x y. let p = x .allowed in let q = y .allowed in (same (p .0) (q .0), λ i. (tt, (tt, (same (p .1 .1) (q .1 .1) i, (same (p .1 .0) (q .1 .0) i, tt))))),
       );
+      c-salvage =
+          λ _ _ x y. let p = x .allowed in let q = y .allowed in let e = same (p .0) (q .0) in (λ i. e i .number, λ i. (tt, (same (p .1 .0) (q .1 .0) i, (same (p .1 .1 .0) (q .1 .1 .0) i, (same (p .1 .1 .1) (q .1 .1 .1) i, (e i .bytes, (e i .entries, (e i .blocks, tt))))))));
     }

@@ -11,4 +11,5 @@ pub mod KeepsWatch
 pub mod KeepsTable
 pub mod KeepsDemands
 pub mod KeepsRecording
+pub mod KeepsSalvage
 pub mod KeepsSettled

@@ -10,5 +10,6 @@ pub mod Watch
 pub mod Table
 pub mod Demands
 pub mod Recording
+pub mod Salvage
 pub mod Outcomes
 pub mod Settled

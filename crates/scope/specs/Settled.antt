@@ -44,9 +44,17 @@ use Rattle.recording.proofs.front_of
 use Rattle.recording.proofs.body_length
 use Rattle.recording.proofs.next_field
 use Rattle.recording.proofs.line_of
+use Rattle.made.proofs.bytes_by
+use Rattle.salvaging.proofs.salvage
+use Rattle.text.proofs.put_part
+use Rattle.text.proofs.put_column
+use Rattle.text.proofs.put_text
 use Rattle.listing.proofs.put_first
 use Rattle.listing.proofs.put_line
 use Rattle.listing.proofs.put_last
+use Rattle.report.proofs.put_first as report_first
+use Rattle.report.proofs.put_entry
+use Rattle.report.proofs.put_last as report_last
 use Rattle.c_numbers.proofs.in_byte
 use Rattle.c_numbers.proofs.in_pair
 use Rattle.c_numbers.proofs.is_on
@@ -74,6 +82,7 @@ use Rattle.c_recording.proofs.rahmisve_line
 use Rattle.c_recording.proofs.rahmisve_first_text
 use Rattle.c_recording.proofs.rahmisve_line_text
 use Rattle.c_recording.proofs.rahmisve_last_text
+use Rattle.c_salvage.proofs.rahmisve_salvage
 use Rattle.scope.specs.Outcomes.{Settled, SettledUpTo, offered}
 
 pub record AllSettled : Type 0 where
@@ -103,7 +112,11 @@ pub record AllSettled : Type 0 where
   pub watch : Settled begin.ended begin.Reads.Learnt × Settled step.ended step.Reads.Learnt × Settled offer.ended offered
   pub recording : Settled front_of.ended front_of.Reads.Learnt × Settled body_length.ended body_length.Reads.Learnt
       × Settled next_field.ended next_field.Reads.Learnt × Settled line_of.ended line_of.Reads.Learnt
+  pub made : Settled bytes_by.ended bytes_by.Reads.Learnt
+  pub salvaging : Settled salvage.ended salvage.Reads.Learnt
+  pub text : Settled put_part.ended put_part.Reads.Learnt × Settled put_column.ended put_column.Reads.Learnt × Settled put_text.ended put_text.Reads.Learnt
   pub listing : Settled put_first.ended put_first.Reads.Learnt × Settled put_line.ended put_line.Reads.Learnt × Settled put_last.ended put_last.Reads.Learnt
+  pub report : Settled report_first.ended report_first.Reads.Learnt × Settled put_entry.ended put_entry.Reads.Learnt × Settled report_last.ended report_last.Reads.Learnt
   pub c-numbers : Settled in_byte.ended in_byte.Reads.Learnt × Settled in_pair.ended in_pair.Reads.Learnt × Settled is_on.ended is_on.Reads.Learnt
       × Settled marked.ended marked.Reads.Learnt × Settled rahmisve_version.ended rahmisve_version.Reads.Learnt
   pub c-fields : Settled rahmisve_check_word.ended rahmisve_check_word.Reads.Learnt × Settled rahmisve_take_words.ended rahmisve_take_words.Reads.Learnt
@@ -119,3 +132,4 @@ pub record AllSettled : Type 0 where
   pub c-recording : Settled rahmisve_next_field.ended rahmisve_next_field.Reads.Learnt × Settled rahmisve_line.ended rahmisve_line.Reads.Learnt
       × Settled rahmisve_first_text.ended rahmisve_first_text.Reads.Learnt × Settled rahmisve_line_text.ended rahmisve_line_text.Reads.Learnt
       × Settled rahmisve_last_text.ended rahmisve_last_text.Reads.Learnt
+  pub c-salvage : Settled rahmisve_salvage.ended rahmisve_salvage.Reads.Learnt

@@ -122,6 +122,20 @@ extern "C" {
     ) -> u8;
     /// The last line of a listing, to the front of the room.
     pub fn rahmisve_last_text(cut: u32, fields: u64, room: *mut u8, room_length: usize, bytes: *mut usize) -> u8;
+    /// Finds the blocks in an input without boundaries: a recording and a report, each to the front of its room.
+    pub fn rahmisve_salvage(
+        input: *const u8,
+        input_length: usize,
+        recording: *mut u8,
+        recording_length: usize,
+        report: *mut usize,
+        report_length: usize,
+        scratch: *mut u16,
+        scratch_length: usize,
+        bytes: *mut usize,
+        entries: *mut usize,
+        blocks: *mut usize,
+    ) -> u8;
     /// The check word of a message.
     pub fn rahmisve_check_word(message: *const u8, message_length: usize) -> u16;
     /// Takes words out of a field, to the front of the room.
