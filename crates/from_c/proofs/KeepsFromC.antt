@@ -11,8 +11,7 @@ use lib.ListN.{length, getD, drop, replicate}
 use borrow.Author.Tests.{ltb-true, ltb-false, leb-true, leb-false, eqb-true, eqb-false, eq-eqb, ne-eqb, le-ltb, not-true, not-false}
 use Rattle.ground.specs.Choice.{pick}
 use Rattle.ground.proofs.LawsChoice.{either}
-use Rattle.ground.proofs.LawsTests.{never, neither}
-use Rattle.ground.proofs.LawsGrounds.{reads-number}
+use Rattle.ground.proofs.LawsTests.{never}
 use Rattle.bits.specs.Bits.{Below}
 use Rattle.bits.specs.Fields.{wordsOf, fieldOf, badSize, fit, allFit, takeAnswer, roomTaken, putAnswer}
 use Rattle.bits.proofs.Table.{row7}
@@ -55,10 +54,6 @@ use Rattle.recording.specs.declared.Line.{Line}
 use Rattle.recording.proofs.LawsLines.{line-seq, seq-next}
 use Rattle.text.specs.Texts.{digits, decimal as spelled, putLength}
 use Rattle.listing.specs.Texts.{blockText, firstText, lineText, lastText}
-use Rattle.salvaging.specs.Pieces.{Piece, block, span, copyOf, startFrom, piecesOf, fieldsOf, recordingOf, reportOf, wordsOver}
-use Rattle.salvaging.specs.Answers.{bytesFor, numbersFor, smallRooms, noBlock, refusalOf as unsalvaged, refusedSalvaged, doneSalvaged, salvagedOf, ahead, recordingAfter, reportAfter, scratchAfter}
-use Rattle.salvaging.specs.declared.Salvaged.{Salvaged}
-use Rattle.salvaging.proofs.LawsSearch.{copy-makes, none-all, start-found, start-none}
 use Rattle.scope.proofs.KeepsFourRecords.{four-records}
 use Rattle.c_numbers.specs.Numbers.{upTo}
 use Rattle.c_numbers.specs.Marks as marks
@@ -69,7 +64,7 @@ use Rattle.c_watch.specs.Watches.{watchIn, numbersOfWatch, leaves, rowAfter, ro
 use Rattle.c_recording.specs.Told.{codeOf, lineFrom, putNumber}
 use Rattle.c_recording.proofs.KeepsTold.{keeps-numbers, puts-text}
 use Rattle.scope.specs.Notions.{Reason, _if_, FirstOf}
-use Rattle.from_c.specs.FromC.{mark, time, watch, watchAt, code, Tells, Puts, Short, NoBlock, FromC, RowsFromC}
+use Rattle.from_c.specs.FromC.{mark, time, watch, watchAt, code, Tells, Puts, FromC, RowsFromC}
 use Rattle.from_c.proofs.LawsFromC.{take-cut, room-cut, put-cut, field-cut, place-cut, part-cut, on-same, write-cut, line-cut, listed-cut, follows}
 
 -- ---- marks, times and watches
@@ -253,95 +248,6 @@ module _ {X : Type 0} (n : ℕ) (a d : X) {answer : ℕ} {x : X} (e : answer ≡
   at-others : (answer ≡ 0 → ⊥) → x ≡ d
   at-others h = f ∙ ap (λ (t : Bool). pick t a d) (ne-eqb n 0 (λ z. h (e ∙ z)))
 
--- ---- salvage
-
-short : (n m r w : ℕ) → smallRooms n m r w ≡ true → Short n m r w
-short n m r w = go (ltb m (bytesFor n)) (ltb r (numbersFor n)) (ltb w 21008) refl refl refl
-  where
-    go : (a b c : Bool) → ltb m (bytesFor n) ≡ a → ltb r (numbersFor n) ≡ b → ltb w 21008 ≡ c → (a || b) || c ≡ true → Short n m r w
-    go true b c e f g h = inl (ltb-true m (bytesFor n) e)
-    go false true c e f g h = inr (inl (ltb-true r (numbersFor n) f))
-    go false false true e f g h = inr (inr (ltb-true w 21008 g))
-    go false false false e f g h = never h
-
-not-short : (n m r w : ℕ) → smallRooms n m r w ≡ false → Short n m r w → ⊥
-not-short n m r w e h =
-    let a = neither (ltb m (bytesFor n) || ltb r (numbersFor n)) (ltb w 21008) e in
-    let b = neither (ltb m (bytesFor n)) (ltb r (numbersFor n)) (a .0) in
-    ⊎-elim (within-it m (bytesFor n) (b .0)) (⊎-elim (within-it r (numbersFor n) (b .1)) (within-it w 21008 (a .1))) h
-
-module _ (input : List ℕ) where
-  none-there : noBlock input ≡ true → NoBlock input
-  none-there e start copy l =
-      let g : length input ≤ startFrom 0 input = ltb-false (startFrom 0 input) (length input) (not-true (ltb (startFrom 0 input) (length input)) e) in
-      none-all (drop start input) (start-none 0 input (omega arith) start (omega arith) (omega arith)) copy
-
-  one-there : noBlock input ≡ false → NoBlock input → ⊥
-  one-there e none =
-      let at = startFrom 0 input in
-      let l : at < length input = ltb-true at (length input) (not-false (ltb at (length input)) e) in
-      never (sym (none at (copyOf (drop at input)) l) ∙ copy-makes (drop at input) (start-found 0 input (omega arith) l))
-
-  salvaging : (m r w : ℕ) → FirstOf (9 if Short (length input) m r w ∷ 18 if NoBlock input ∷ []) (unsalvaged input m r w)
-  unfolding unsalvaged
-  salvaging m r w =
-      by-test 9 (smallRooms (length input) m r w) (18 if NoBlock input ∷ []) (pick (noBlock input) 18 0) (short (length input) m r w) (not-short (length input) m r w)
-      (by-test 18 (noBlock input) [] 0 none-there one-there refl)
-
-  salvage-number : (m r w : ℕ) → salvagedOf input m r w .number ≡ unsalvaged input m r w
-  unfolding salvagedOf
-  salvage-number m r w = reads-number (doneSalvaged input) refusedSalvaged (λ (s : Salvaged). s .number) refl (λ n. refl) (unsalvaged input m r w)
-
-  -- three numbers for each piece
-  report-length : (ps : List Piece) → length (reportOf input ps) ≡ length ps * 3
-  unfolding reportOf
-  report-length [] = refl
-  report-length (block s n k ∷ ps) = omega (arith, report-length ps)
-  report-length (span s n ∷ ps) = omega (arith, report-length ps)
-
-module _ (input recording report scratch : List ℕ) {result : Salvaged} {recorded reported read : List ℕ}
-    (e : result ≡ salvagedOf input (length recording) (length report) (length scratch))
-    (f : recorded ≡ recordingAfter input recording (length report) (length scratch))
-    (g : reported ≡ reportAfter input (length recording) report (length scratch))
-    (h : read ≡ scratchAfter input (length recording) (length report) scratch) where
-  abbrev n : ℕ
-  n = unsalvaged input (length recording) (length report) (length scratch)
-
-  numbered : result .number ≡ n
-  numbered = (λ i. e i .number) ∙ salvage-number input (length recording) (length report) (length scratch)
-
-  abbrev ps : List Piece
-  ps = piecesOf input
-
-  salvaged : result .number ≡ 0
-      → (recorded ≡ recordingOf input ps ++ drop (result .bytes) recording) × (reported ≡ reportOf input ps ++ drop (result .entries * 3) report)
-      × (read ≡ wordsOver input ps scratch) × (result .bytes ≡ length (recordingOf input ps)) × (result .entries ≡ length ps)
-      × (result .blocks ≡ length (fieldsOf input ps))
-  unfolding salvagedOf recordingAfter reportAfter scratchAfter
-  salvaged z =
-      let d = at-zero n (doneSalvaged input) (refusedSalvaged n) numbered e z in (
-        at-zero n (ahead (recordingOf input ps) recording) recording numbered f z ∙ ap (λ (k : ℕ). recordingOf input ps ++ drop k recording) (λ i. sym d i .bytes),
-        at-zero n (ahead (reportOf input ps) report) report numbered g z
-            ∙ ap (λ (k : ℕ). reportOf input ps ++ drop k report) (report-length input ps ∙ (λ i. sym d i .entries * 3)),
-        at-zero n (wordsOver input ps scratch) scratch numbered h z,
-        λ i. d i .bytes,
-        λ i. d i .entries,
-        λ i. d i .blocks,
-      )
-
-  unsaved : (result .number ≡ 0 → ⊥)
-      → (recorded ≡ recording) × (reported ≡ report) × (read ≡ scratch) × (result .bytes ≡ 0) × (result .entries ≡ 0) × (result .blocks ≡ 0)
-  unfolding salvagedOf recordingAfter reportAfter scratchAfter
-  unsaved z =
-      let d = at-others n (doneSalvaged input) (refusedSalvaged n) numbered e z in (
-        at-others n (ahead (recordingOf input ps) recording) recording numbered f z,
-        at-others n (ahead (reportOf input ps) report) report numbered g z,
-        at-others n (wordsOver input ps scratch) scratch numbered h z,
-        λ i. d i .bytes,
-        λ i. d i .entries,
-        λ i. d i .blocks,
-      )
-
 pub from-c : FromC
 from-c = record {
   read = λ _ g x. let p = x .allowed in (p .0, p .1 .1 .1 .1, p .1 .0, p .1 .1 .0 ∙ copies-same (answerOf (g .0 .now) (length (g .1 .0 .now))), p .1 .1 .1 .0);
@@ -386,14 +292,8 @@ from-c = record {
       let cut = g .0 in let fields = g .1 .0 in
       puts (lastText (not (eqb cut 0)) fields) (g .1 .1 .0 .now) (ap (λ (t : Bool). lastText t fields) (on-same cut)) (x .allowed);
   salvage = λ _ g x.
-      let input = g .0 .now in let recording = g .1 .0 .now in let report = g .1 .1 .0 .now in let scratch = g .1 .1 .1 .0 .now in
-      let p = x .allowed in (
-        subst (FirstOf (9 if Short (length input) (length recording) (length report) (length scratch) ∷ 18 if NoBlock input ∷ []))
-            (sym (numbered input recording report scratch (p .0) (p .1 .0) (p .1 .1 .0) (p .1 .1 .1)))
-            (salvaging input (length recording) (length report) (length scratch)),
-        salvaged input recording report scratch (p .0) (p .1 .0) (p .1 .1 .0) (p .1 .1 .1),
-        unsaved input recording report scratch (p .0) (p .1 .0) (p .1 .1 .0) (p .1 .1 .1),
-      );
+      let p = x .allowed in
+      (λ i. p .0 i .number, λ i. p .0 i .bytes, λ i. p .0 i .entries, λ i. p .0 i .blocks, p .1 .0, p .1 .1 .0, p .1 .1 .1);
   version = λ _ _ x. x .allowed;
   check = λ _ _ x. x .allowed;
   take = λ _ g x.

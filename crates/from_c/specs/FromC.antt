@@ -2,7 +2,7 @@
 -- Each answers what the library does for the numbers that C gives, none of them cut to fit a smaller type: 256 is not block 0. What the
 -- library answers is said in the other files of this folder.
 -- Assumes nothing.
-use Prim.Native.Nat.{ℕ, zero, suc, _+_, _*_, _/_, _^_, _≤_, _<_, min}
+use Prim.Native.Nat.{ℕ, zero, suc, _+_, _*_, _^_, _≤_, _<_, min}
 use mathlib.Core.Path.{_≡_}
 use mathlib.Core.Logic.{_⊎_}
 use mathlib.Core.Bool.{Bool, true, false}
@@ -37,8 +37,7 @@ use Rattle.recording.specs.declared.Found.{Found}
 use Rattle.recording.specs.declared.Found.the-variants.{Whole, Cut, End}
 use Rattle.text.specs.Texts.{bytesOf}
 use Rattle.listing.specs.Texts.{lineText, lastText}
-use Rattle.made.specs.Made.{makes}
-use Rattle.salvaging.specs.Pieces.{piecesOf, fieldsOf, recordingOf, reportOf, wordsOver}
+use Rattle.salvaging.specs.Answers.{salvagedOf, recordingAfter, reportAfter, scratchAfter}
 use Rattle.c_numbers.proofs.rahmisve_version
 use Rattle.c_fields.proofs.rahmisve_check_word
 use Rattle.c_fields.proofs.rahmisve_take_words
@@ -117,15 +116,6 @@ Puts text room answer after bytes =
     (length text ≤ length room → (answer ≡ 0) × (after ≡ text ++ drop (length text) room) × (bytes ≡ length text))
     × (length room < length text → (answer ≡ 9) × (after ≡ room) × (bytes ≡ 0))
 
--- less room than an input of so many bytes could need: 2,772 are the shortest block, with a front of 3 bytes in the recording, and in the
--- report an entry of 3 numbers for it and one for a span before it; a span may stand behind the last; 21,008 are the words of the longest
-abbrev pub Short : (input recording report scratch : ℕ) → Type 0
-Short n recording report scratch = (recording < n + n / 2772 * 3) ⊎ ((report < (n / 2772 * 2 + 1) * 3) ⊎ (scratch < 21008))
-
--- at no start does a header copy make an acceptable block
-abbrev pub NoBlock : List ℕ → Type 0
-NoBlock input = (start copy : ℕ) → start < length input → makes copy (drop start input) ≡ false
-
 pub record FromC : Type 0 where
   -- blocks
   pub read : Every rahmisve_read.ended rahmisve_read.Reads.Learnt (λ _ (block, (room, _)) answer (_, (words, (header, (copies, (count, _))))).
@@ -186,15 +176,15 @@ pub record FromC : Type 0 where
       Puts (lineText (record { seq = seq; answer = min number 255; block = min block 255; version = min version 255; words = count })) (now room) answer after bytes)
   pub last-text : Every rahmisve_last_text.ended rahmisve_last_text.Reads.Learnt (λ _ (cut, (fields, (room, _))) answer (_, (_, (after, (bytes, _)))).
       Puts (lastText (isOn cut) fields) (now room) answer after bytes)
-  -- salvage; a refusal leaves what is lent as it was, and counts nothing
+  -- salvage: how long the recording is, and how many entries and blocks the report has
   pub salvage : Every rahmisve_salvage.ended rahmisve_salvage.Reads.Learnt (λ _ (input, (recording, (report, (scratch, _)))) answer (_, (recorded, (reported, (read, (bytes, (entries, (blocks, _))))))).
-      let pieces = piecesOf (now input) in
-      FirstOf (9 if Short (length (now input)) (length (now recording)) (length (now report)) (length (now scratch)) ∷ 18 if NoBlock (now input) ∷ []) answer
-      × (answer ≡ 0
-      → (recorded ≡ recordingOf (now input) pieces ++ drop bytes (now recording)) × (reported ≡ reportOf (now input) pieces ++ drop (entries * 3) (now report))
-      × (read ≡ wordsOver (now input) pieces (now scratch)) × (bytes ≡ length (recordingOf (now input) pieces)) × (entries ≡ length pieces)
-      × (blocks ≡ length (fieldsOf (now input) pieces)))
-      × ((answer ≡ 0 → ⊥) → (recorded ≡ now recording) × (reported ≡ now report) × (read ≡ now scratch) × (bytes ≡ 0) × (entries ≡ 0) × (blocks ≡ 0)))
+      let m = length (now recording) in
+      let r = length (now report) in
+      let w = length (now scratch) in
+      let s = salvagedOf (now input) m r w in
+      (answer ≡ s .number) × (bytes ≡ s .bytes) × (entries ≡ s .entries) × (blocks ≡ s .blocks)
+      × (recorded ≡ recordingAfter (now input) (now recording) r w) × (reported ≡ reportAfter (now input) m (now report) w)
+      × (read ≡ scratchAfter (now input) m r (now scratch)))
   -- this interface
   pub version : Every rahmisve_version.ended rahmisve_version.Reads.Learnt (λ _ _ answer _. answer ≡ 3)
   -- what a block is made of

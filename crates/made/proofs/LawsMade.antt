@@ -2,7 +2,7 @@
 -- of the code come to the same as the reader's.
 -- Assumes nothing.
 use Prim.Native.Nat.{ℕ, _+_, _-_, _*_, _≤_, _<_}
-use mathlib.Core.Path.{_≡_, refl, sym, ap, ap₂, _∙_, subst}
+use mathlib.Core.Path.{_≡_, refl, sym, ap, ap₂, _∙_}
 use mathlib.Core.Bool.{Bool, true, false, not, _&&_, _||_}
 use mathlib.Core.List.{List, [], _∷_, _++_, append-assoc}
 use native.Mathlib.Omega.{arith}
@@ -13,13 +13,13 @@ use borrow.Author.Tests.{ltb-true, leb-true, eqb-true, eq-eqb, ne-eqb, le-ltb, l
 use Rattle.ground.specs.Choice.{pick}
 use Rattle.ground.specs.Grounds.{_when_, firstOf}
 use Rattle.ground.proofs.LawsChoice.{yes, no}
-use Rattle.ground.proofs.LawsTests.{never, both, split, not-second}
+use Rattle.ground.proofs.LawsTests.{both, split, not-second}
 use Rattle.bits.specs.Fields.{wordsOf}
 use Rattle.ground.proofs.LawsGrounds.{none-first, first-none, none-split, accepts}
 use Rattle.check_rule.specs.Check.{passes}
 use Rattle.row.specs.Promises.{mostWords, longestField}
 use Rattle.row.proofs.LawsField.{field-least, words-at-most}
-use Rattle.copies.specs.Copies.{headerLength, copyLength, copiesLength, copyAt, sameAs, differ, twoDiffer, common, commonIn, headerIn, copiesGrounds}
+use Rattle.copies.specs.Copies.{headerLength, copyLength, copiesLength, copyAt, differ, twoDiffer, common, headerIn, copiesGrounds}
 use Rattle.copies.specs.Agreed.{ThreeEqual}
 use Rattle.copies.proofs.LawsSame.{same-refl}
 use Rattle.copies.proofs.LawsAgreed.{each, copy-long}

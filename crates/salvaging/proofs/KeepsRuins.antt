@@ -26,10 +26,9 @@ use Rattle.block.specs.Promises.{Accepted, Received}
 use Rattle.block.proofs.KeepsReader.{accepts-exactly}
 use Rattle.block.proofs.KeepsAltered.{changed-same}
 use Rattle.recording.specs.Fields.{Field, joined}
-use Rattle.made.specs.Made.{made}
 use Rattle.made.specs.Promises.{MakesBlock}
 use Rattle.made.proofs.KeepsMade.{makes-exactly, made-bytes}
-use Rattle.salvaging.specs.Pieces.{copyOf, Piece, block, span, piecesOf, fieldBy, fieldsOf, recordingOf}
+use Rattle.salvaging.specs.Pieces.{copyOf, Piece, block, span, piecesOf, fieldsOf, recordingOf}
 use Rattle.salvaging.specs.Promises.{FirstCopy, Cover, Right, Longest, Kept, Each, Among, NoneOver, Restores, bodies, AgainSame}
 use Rattle.salvaging.proofs.KeepsSearch.{order, no-start, first-copy, same-copy, searched, only-pieces}
 use Rattle.salvaging.proofs.KeepsRecords.{kept, each-of}

@@ -14,7 +14,7 @@ use Rattle.ground.proofs.LawsGrounds.{accepts, refuses}
 use Rattle.row.specs.Promises.{mostWords}
 use Rattle.salvaging.specs.declared.Salvaged.{Salvaged}
 use Rattle.salvaging.specs.Pieces.{startFrom, piecesOf, recordingOf, reportOf, wordsOver}
-use Rattle.salvaging.specs.Answers.{bytesFor, numbersFor, smallRooms, noBlock, refusalOf, refusedSalvaged, doneSalvaged, salvagedOf, ahead, recordingAfter, reportAfter, scratchAfter}
+use Rattle.salvaging.specs.Answers.{bytesFor, numbersFor, smallRooms, refusalOf, refusedSalvaged, doneSalvaged, salvagedOf, ahead, recordingAfter, reportAfter, scratchAfter}
 use Rattle.salvaging.proofs.SalvageTurns.{Done}
 
 -- what the test of the rooms shows

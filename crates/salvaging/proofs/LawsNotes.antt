@@ -1,7 +1,7 @@
 -- Numbers stored in a row are laid; a span's entry is its piece's; copies are compared where they lie.
 -- Assumes nothing.
 use Prim.Native.Nat.{ℕ, _+_, _-_, _*_, _≤_, _<_}
-use mathlib.Core.Path.{_≡_, refl, sym, ap, ap₂, _∙_}
+use mathlib.Core.Path.{_≡_, refl, sym, ap, _∙_}
 use mathlib.Core.Bool.{Bool, true, false}
 use mathlib.Core.List.{List, [], _∷_}
 use native.Mathlib.Omega.{arith}
@@ -9,7 +9,6 @@ use lib.ListN.{length, getD, set}
 use lib.Seq.{getD-take, getD-drop}
 use lib.ListN.{drop}
 use borrow.Author.Tests.{lt-ltb, le-ltb}
-use Rattle.ground.specs.Choice.{pick}
 use Rattle.ground.proofs.LawsChoice.{yes, no}
 use Rattle.room.specs.Laid.{laid}
 use Rattle.room.proofs.LawsLaid.{laid-set, laid-snoc}

@@ -1,17 +1,15 @@
 -- The pieces, a block at a time, and what is made of a span that may be empty.
 -- Assumes nothing.
 use Prim.Native.Nat.{ℕ, suc, _+_, _-_, _*_, _≤_, _<_}
-use mathlib.Core.Path.{_≡_, refl, sym, ap, ap₂, _∙_}
+use mathlib.Core.Path.{_≡_, refl, ap}
 use mathlib.Core.Bool.{Bool, true, false}
 use mathlib.Core.List.{List, [], _∷_, _++_}
 use native.Mathlib.Omega.{arith}
 use lib.Dec.{ltb}
-use lib.ListN.{length, drop}
+use lib.ListN.{length}
 use borrow.Author.Tests.{lt-ltb, le-ltb}
 use Rattle.ground.specs.Choice.{pick}
-use Rattle.recording.specs.Fields.{Field}
-use Rattle.made.specs.Made.{lengthBy}
-use Rattle.salvaging.specs.Pieces.{copyOf, startFrom, Piece, block, span, gap, blockAt, endAt, piecesFrom, fieldsOf, reportOf, spanEntry, wordsOver}
+use Rattle.salvaging.specs.Pieces.{startFrom, Piece, span, gap, blockAt, endAt, piecesFrom, fieldsOf, reportOf, spanEntry, wordsOver}
 
 module _ (input : List ℕ) (from to : ℕ) (ps : List Piece) where
   pub fields-gap : fieldsOf input (gap from to ++ ps) ≡ fieldsOf input ps

@@ -1,20 +1,20 @@
 -- A turn of `salvage`: the span before a block and the block are noted, the block is written, and the search goes on behind it. What is still
 -- to be written is what the pieces from there on make.
 -- Assumes nothing.
-use Prim.Native.Nat.{ℕ, suc, _+_, _-_, _*_, _/_, _≤_, _<_}
+use Prim.Native.Nat.{ℕ, suc, _+_, _-_, _*_, _≤_, _<_}
 use mathlib.Core.Path.{_≡_, refl, sym, ap, ap₂, subst, _∙_}
 use mathlib.Core.Bool.{Bool, true, false}
 use mathlib.Core.List.{List, [], _∷_, _++_, append-assoc}
 use native.Mathlib.Omega.{arith}
 use lib.Dec.{ltb}
 use lib.ListN.{length, drop, length-drop, length-append}
-use borrow.Author.Tests.{lt-ltb, le-ltb, ltb-true, ltb-false}
+use borrow.Author.Tests.{le-ltb, ltb-true, ltb-false}
 use Rattle.ground.specs.Choice.{pick}
 use Rattle.ground.proofs.LawsChoice.{yes, no}
 use Rattle.room.specs.Laid.{laid}
 use Rattle.room.proofs.LawsLaid.{laid-then}
 use Rattle.room.proofs.LawsWritten.{Written, nothing-yet, write-on, written-as, all-written}
-use Rattle.recording.specs.Fields.{Field, written, joined}
+use Rattle.recording.specs.Fields.{written, joined}
 use Rattle.made.specs.Made.{lengthBy, makes}
 use Rattle.made.proofs.LawsMade.{Makes, made-so, made-long, length-least, length-most}
 use Rattle.salvaging.specs.Pieces.{copyOf, startFrom, Piece, block, span, gap, blockAt, endAt, piecesFrom, piecesOf, fieldBy, fieldsOf, recordingOf, changedBy, reportOf, spanEntry, wordsOver, Found, scratchAt, scratchFound}

@@ -1,6 +1,6 @@
 -- What a salvage promises, said without its loops: the pieces that a search gives, what is made of them, and which refusal is given when.
 -- Assumes nothing.
-use Prim.Native.Nat.{ℕ, _+_, _-_, _*_, _/_, _%_, _^_, _<_, _≤_}
+use Prim.Native.Nat.{ℕ, _+_, _*_, _/_, _%_, _^_, _<_, _≤_}
 use mathlib.Core.Path.{_≡_}
 use mathlib.Core.Logic.{_↔_, _⊎_}
 use mathlib.Core.Bool.{Bool, true, false}
@@ -19,7 +19,6 @@ use Rattle.recording.specs.Fields.{Field}
 use Rattle.recording.specs.Fields as recording
 use Rattle.recording.specs.Lines.{lineOf}
 use Rattle.made.specs.Promises.{MakesBlock}
-use Rattle.salvaging.specs.declared.Salvaged.{Salvaged}
 use Rattle.salvaging.specs.Pieces.{Piece, block, span, piecesOf, fieldsOf, recordingOf, changedBy, reportOf}
 use Rattle.salvaging.specs.Answers.{refusedSalvaged, salvagedOf, recordingAfter, reportAfter, scratchAfter}
 

@@ -164,7 +164,7 @@ reads =
 of-each : (P : List ℕ → Type 0) (block : List ℕ) → P (take 30 block) → P (take 30 (drop 30 block)) → P (take 30 (drop 60 block)) → (k : ℕ) → k < 3 → P (copyAt k block)
 of-each P block = each (λ k. P (copyAt k block))
 
-equal-copies : {block c : List ℕ} → ThreeEqual block c → Equal block
+pub equal-copies : {block c : List ℕ} → ThreeEqual block c → Equal block
 equal-copies e = record { second = e 1 (lit< tt) ∙ sym (e 0 (lit< tt)); third = e 2 (lit< tt) ∙ sym (e 0 (lit< tt)) }
 
 pub rewrites : Rewrites
@@ -194,7 +194,7 @@ module _ {Change : List ℕ → List ℕ → Type 0} {one other : List ℕ} (r :
   one-whole : (k : ℕ) × (k < 3) × (copyAt k other ≡ c)
   one-whole = ⊎-elim (λ e. (0, lit< tt, e)) (⊎-elim (λ e. (1, lit< tt, e)) (λ e. (2, lit< tt, e))) (r .whole)
 
-  receives : promises.Received Change one other c
+  pub receives : promises.Received Change one other c
   receives =
       record {
         bytes = r .bytes;

@@ -1,218 +1,40 @@
--- The search as these statements have it, and as the promises of `salvaging` have it: each gives the other.
+-- Salvage: what comes of a search, and what is true of its finds.
 -- Assumes nothing.
-use Prim.Native.Nat.{ℕ, _+_, _-_, _*_, _/_, _%_, _^_, _≤_, _<_}
+use Prim.Native.Nat.{ℕ, _+_, _-_, _*_, _/_, _%_, _^_, _<_}
 use mathlib.Core.Path.{_≡_, refl, sym, ap, ap₂, _∙_, subst}
 use mathlib.Core.Logic.{_⊎_, inl, inr, ⊎-elim, _↔_}
 use mathlib.Core.Bool.{Bool, true, false}
 use mathlib.Core.List.{List, [], _∷_, _++_}
 use native.Mathlib.Omega.{arith}
-use lib.Dec.{lit<, eqb, ltb}
-use lib.ListN.{length, take, drop, length-drop}
-use lib.Seq.{drop-drop}
-use borrow.Author.Tests.{eqb-true, eqb-false, ltb-true, ltb-false}
-use Rattle.ground.proofs.LawsGrounds.{accepts}
+use lib.Dec.{lit<, eqb}
+use lib.ListN.{length, take, drop}
+use borrow.Author.Tests.{eqb-true, eqb-false}
 use Rattle.bits.specs.Bits.{Below}
-use Rattle.bits.proofs.LawsBelow.{below-drop}
-use Rattle.check_rule.specs.Check.{generator}
-use Rattle.check_rule.specs.Finds.{Passes}
+use Rattle.bits.specs.Runs.{Altered}
+use Rattle.bits.proofs.LawsBelow.{below-append}
 use Rattle.copies.specs.Copies.{copyAt}
 use Rattle.made.specs.Made.{made}
-use Rattle.made.specs.Promises.{MakesBlock}
-use Rattle.made.proofs.KeepsMade.{makes-exactly}
+use Rattle.made.proofs.KeepsMade.{makes-exactly, made-bytes}
+use Rattle.block.specs.Answers.{roomAfter}
+use Rattle.recording.specs.Fields as recording
 use Rattle.recording.specs.Fields.{Field, joined}
-use Rattle.salvaging.specs.declared.Salvaged.{Salvaged}
 use Rattle.salvaging.specs.Pieces as pieces
 use Rattle.salvaging.specs.Pieces.{Piece, piecesOf, fieldsOf, recordingOf, changedBy, reportOf, wordsOver}
-use Rattle.salvaging.specs.Answers.{refusedSalvaged, doneSalvaged, ahead, salvagedOf, recordingAfter, reportAfter, scratchAfter}
-use Rattle.salvaging.specs.Promises.{FirstCopy, NoStart, Cover, Right, Longest, Searched, TooSmall, NoBlock}
-use Rattle.salvaging.proofs.LawsWrites.{drop-take}
-use Rattle.salvaging.proofs.KeepsSearch.{searched, only-pieces, covers-once, room-suffices}
-use Rattle.salvaging.proofs.KeepsRecords.{records, changes, refuses-exactly, done-answer, done-recording, done-report, done-words}
+use Rattle.salvaging.specs.Answers.{salvagedOf}
+use Rattle.salvaging.specs.Promises as promises
+use Rattle.salvaging.specs.Promises.{FirstCopy, Right, bytesOf, bodies, TooSmall, NoBlock}
+use Rattle.salvaging.proofs.KeepsSearch.{searched, covers-once, room-suffices}
+use Rattle.salvaging.proofs.KeepsRecords.{kept, records, changes, refuses-exactly, done-answer, done-recording, done-report, done-words}
 use Rattle.salvaging.proofs.KeepsRuins.{restores, again-same}
-use Rattle.block.specs.Answers.{roomAfter}
 use Rattle.scope.specs.Notions.{FirstOf}
-use Rattle.scope.specs.Salvage.{copyFrom, Makes, Found, block, span, Skips, nothing, some, Search, hit, over, recorded, blocksIn, Changed, Report, end, of-block, of-span, readAll, salvageReasons, Gives, Salvage}
-use Rattle.scope.proofs.LawsFormat.{agrees-passes, passes-agrees}
-use Rattle.scope.proofs.KeepsDemands.{meets-block, block-meets}
+use Rattle.scope.specs.Demands.{Accepted, Received}
+use Rattle.scope.specs.Salvage.{copyFrom, Makes, Found, block, span, Search, recorded, blocksIn, Changed, Report, end, of-block, of-span, readAll, salvageReasons, Gives, lyingOn, Among, NoneOver, asFields, backToBack, Each, Stands, OfFinds, Salvage}
+use Rattle.scope.proofs.KeepsDemands.{equal-copies, receives, reads, altering}
+use Rattle.scope.proofs.LawsFound.{copy-is, makes-block, block-makes, asFound, toFounds, below, n-is, makes-it, canonical, one-search}
 
--- ---- a start with a block
-
-copy-is : (input : List ℕ) (s k : ℕ) → 1 ≤ k → copyAt (k - 1) (drop s input) ≡ copyFrom input s k
-copy-is input s k l =
-    let e : s + (k - 1) * 30 ≡ s + 30 * (k - 1) = omega arith in
-    ap (take 30) (drop-drop ((k - 1) * 30) s input) ∙ ap (λ (n : ℕ). take 30 (drop n input)) e
-
-module _ (input : List ℕ) where
-  -- a start's block, as both have it
-  makes-block : (s k : ℕ) (b : List ℕ) → Makes input s k b → MakesBlock (k - 1) (drop s input) b
-  makes-block s k b m =
-      let e = copy-is input s k (m .least) in
-      record {
-        one = omega (arith, m .least, m .most);
-        passing = subst (Passes generator) (sym e) (agrees-passes (m .passes));
-        inside = omega (arith, m .inside, length-drop s input);
-        copies = m .copies ∙ (λ i. sym e i ++ (sym e i ++ sym e i));
-        behind = m .behind ∙ sym (behind-is s b (omega (arith, m .meets .long)) (m .inside));
-        meets = meets-block (m .meets);
-      }
-    where
-      behind-is : (s : ℕ) (b : List ℕ) → 90 ≤ length b → s + length b ≤ length input → drop 90 (take (length b) (drop s input)) ≡ take (length b - 90) (drop (s + 90) input)
-      behind-is s b l h = drop-take 90 (length b) (drop s input) l (omega (arith, length-drop s input)) ∙ ap (take (length b - 90)) (drop-drop 90 s input)
-
-  block-makes : (s k : ℕ) (b : List ℕ) → MakesBlock k (drop s input) b → Makes input s (k + 1) b
-  block-makes s k b m =
-      let long = makes-exactly .least k (drop s input) b m in
-      let k-is : k + 1 - 1 ≡ k = omega arith in
-      let e : copyAt k (drop s input) ≡ copyFrom input s (k + 1) = ap (λ (j : ℕ). copyAt j (drop s input)) (sym k-is) ∙ copy-is input s (k + 1) (omega arith) in
-      record {
-        least = omega arith;
-        most = omega (arith, m .one);
-        passes = passes-agrees (subst (Passes generator) e (m .passing));
-        inside = omega (arith, m .inside, length-drop s input, long);
-        copies = m .copies ∙ (λ i. e i ++ (e i ++ e i));
-        behind = m .behind ∙ drop-take 90 (length b) (drop s input) (omega (arith, long)) (m .inside) ∙ ap (take (length b - 90)) (drop-drop 90 s input);
-        meets = block-meets (m .meets);
-      }
-
-  long-enough : (s k : ℕ) (b : List ℕ) → Makes input s k b → 92 ≤ length b
-  long-enough s k b m = omega (arith, m .meets .long)
-
--- ---- from these finds to the pieces of `salvaging`, and back
-
-unfoldable pub toPieces : List Found → List Piece
-toPieces [] = []
-toPieces (block s k b ∷ fs) = pieces.block s (length b) (k - 1) ∷ toPieces fs
-toPieces (span s n ∷ fs) = pieces.span s n ∷ toPieces fs
-
-unfoldable pub toFounds : List ℕ → List Piece → List Found
-toFounds input [] = []
-toFounds input (pieces.block s n k ∷ ps) = block s (k + 1) (made k (drop s input)) ∷ toFounds input ps
-toFounds input (pieces.span s n ∷ ps) = span s n ∷ toFounds input ps
+-- ---- what comes of it
 
 module _ (input : List ℕ) (bytes : Below 256 input) where
-  abbrev L : ℕ
-  L = length input
-
-  below : (s : ℕ) → Below 256 (drop s input)
-  below s = below-drop 256 s input bytes
-
-  record Sound (from : ℕ) (fs : List Found) : Type 0 where
-    covers : Cover from (toPieces fs) (length input)
-    right : Right input (toPieces fs)
-    longest : Longest false (toPieces fs)
-
-  first-copy : (s k : ℕ) (b : List ℕ) → Makes input s k b → ((j : ℕ) (d : List ℕ) → j < k → Makes input s j d → ⊥) → FirstCopy input s (length b) (k - 1)
-  first-copy s k b m f =
-      record {
-        block = b;
-        makes = makes-block input s k b m;
-        long = refl;
-        first = λ j d l x. f (j + 1) d (omega arith) (block-makes input s j d x);
-      }
-
-  no-start : (from to : ℕ) → ((i j : ℕ) (d : List ℕ) → from ≤ i → i < to → Makes input i j d → ⊥) → from ≤ to → NoStart input from (to - from)
-  no-start from to f l i k d x y m = f i (k + 1) d x (omega arith) (block-makes input i k d m)
-
-  skips-sound : (from to : ℕ) (fs gs : List Found) → from ≤ to → ((i j : ℕ) (d : List ℕ) → from ≤ i → i < to → Makes input i j d → ⊥) → Skips from to fs gs
-      → Cover to (toPieces fs) (length input) → Right input (toPieces fs) → Longest true (toPieces fs) → Longest false (toPieces fs) → Sound from gs
-  unfolding toPieces Cover Right Longest
-  skips-sound from to fs gs l f (nothing e) c r t u = record { covers = subst (λ (a : ℕ). Cover a (toPieces fs) (length input)) (sym e) c; right = r; longest = u }
-  skips-sound from to fs gs l f (some h) c r t u =
-      let q : to ≡ from + (to - from) = omega arith in
-      record {
-        covers = (refl, (omega arith, subst (λ (a : ℕ). Cover a (toPieces fs) (length input)) q c));
-        right = (no-start from to f l, r);
-        longest = t;
-      }
-
-  search-sound : (from : ℕ) (gs : List Found) → from ≤ length input → Search input from gs → Sound from gs
-  unfolding toPieces Cover Right Longest
-  search-sound from gs w (hit {fs} s k b l none m f rest skip) =
-      let x = search-sound (s + length b) fs (m .inside) rest in
-      skips-sound from s (block s k b ∷ fs) gs l none skip
-      (refl, (omega (arith, long-enough input s k b m), x .covers)) (first-copy s k b m f, x .right) (x .longest) (x .longest)
-  search-sound from gs w (over none skip) =
-      skips-sound from (length input) [] gs w (λ i j d x y. none i j d x) skip refl tt tt tt
-
-  -- the finds of a search are settled by its pieces
-  skips-back : {from to : ℕ} {fs gs : List Found} → Skips from to fs gs → fs ≡ toFounds input (toPieces fs) → gs ≡ toFounds input (toPieces gs)
-  unfolding toPieces toFounds
-  skips-back (nothing e) h = h
-  skips-back {from} {to} (some l) h = ap (λ (x : List Found). span from (to - from) ∷ x) h
-
-  search-back : (from : ℕ) (gs : List Found) → Search input from gs → gs ≡ toFounds input (toPieces gs)
-  unfolding toPieces toFounds
-  search-back from gs (hit {fs} s k b l none m f rest skip) =
-      let k-is : k ≡ k - 1 + 1 = omega (arith, m .least) in
-      let b-is : b ≡ made (k - 1) (drop s input) = makes-exactly .only (k - 1) (drop s input) b (below s) (makes-block input s k b m) .1 in
-      let rest-is = search-back (s + length b) fs rest in
-      skips-back skip (λ i. block s (k-is i) (b-is i) ∷ rest-is i)
-  search-back from gs (over none skip) = skips-back skip refl
-
-  pub canonical : (fs : List Found) → Search input 0 fs → fs ≡ toFounds input (piecesOf input)
-  canonical fs s =
-      let x = search-sound 0 fs (omega arith) s in
-      search-back 0 fs s
-      ∙ ap (toFounds input) (only-pieces input bytes (toPieces fs) (record { covers = x .covers; right = x .right; longest = x .longest }))
-
-  -- ---- there is one
-
-  -- no start has a block that is behind the input's end
-  none-behind : (i k : ℕ) (d : List ℕ) → length input ≤ i → Makes input i k d → ⊥
-  none-behind i k d l m = omega (arith, m .inside, long-enough input i k d m)
-
-  module _ (s n k : ℕ) (f : FirstCopy input s n k) where
-    made-is : f .block ≡ made k (drop s input)
-    made-is = makes-exactly .only k (drop s input) (f .block) (below s) (f .makes) .1
-
-    pub n-is : n ≡ length (made k (drop s input))
-    n-is = f .long ∙ ap length made-is
-
-    makes-it : Makes input s (k + 1) (made k (drop s input))
-    makes-it = block-makes input s k (made k (drop s input)) (subst (MakesBlock k (drop s input)) made-is (f .makes))
-
-    first-it : (j : ℕ) (d : List ℕ) → j < k + 1 → Makes input s j d → ⊥
-    first-it j d l m = f .first (j - 1) d (omega (arith, m .least)) (makes-block input s j d m)
-
-    -- with nothing found from `from` on before it, and what is found behind it
-    found-there : (from : ℕ) (ps : List Piece) → from ≤ s → ((i j : ℕ) (d : List ℕ) → from ≤ i → i < s → Makes input i j d → ⊥)
-        → Search input (s + n) (toFounds input ps) → (gs : List Found) → Skips from s (block s (k + 1) (made k (drop s input)) ∷ toFounds input ps) gs → Search input from gs
-    found-there from ps l none rest gs skip =
-        hit s (k + 1) (made k (drop s input)) l none makes-it first-it (subst (λ (m : ℕ). Search input (s + m) (toFounds input ps)) n-is rest) skip
-
-  exists : (a : ℕ) (ps : List Piece) → Cover a ps (length input) → Right input ps → Longest false ps → Search input a (toFounds input ps)
-  unfolding toFounds Cover Right Longest
-  exists a [] c r l =
-      let none : (i j : ℕ) (d : List ℕ) → a ≤ i → Makes input i j d → ⊥ = λ i j d x m. none-behind i j d (omega (arith, c)) m in
-      over none (nothing c)
-  exists a (pieces.block s n k ∷ ps) c r l =
-      found-there s n k (r .0) a ps (omega (arith, c .0)) (λ i j d x y m. omega (arith, c .0))
-      (exists (s + n) ps (subst (λ (x : ℕ). Cover (x + n) ps (length input)) (sym (c .0)) (c .1 .1)) (r .1) l) _ (nothing (sym (c .0)))
-  exists a (pieces.span s n ∷ []) c r l =
-      let e : length input - a ≡ n = omega (arith, c .1 .1) in
-      subst (λ (g : List Found). Search input a g) (λ i. span (sym (c .0) i) (e i) ∷ [])
-      (over (λ i j d x m. beyond i j d x m) (some (omega (arith, c .1 .1))))
-    where
-      beyond : (i j : ℕ) (d : List ℕ) → a ≤ i → Makes input i j d → ⊥
-      beyond i j d x m =
-          ⊎-elim (λ h. r .0 i (j - 1) d (omega (arith, c .0)) (omega (arith, c .0)) (makes-block input i j d m)) (λ h. none-behind i j d (omega (arith, c .1 .1)) m) (by (ltb i (a + n)) refl)
-        where
-          by : (t : Bool) → ltb i (a + n) ≡ t → (i < a + n) ⊎ (a + n ≤ i)
-          by true t = inl (ltb-true i (a + n) t)
-          by false t = inr (ltb-false i (a + n) t)
-  exists a (pieces.span s n ∷ pieces.block s′ n′ k ∷ ps) c r l =
-      let e : s′ - a ≡ n = omega (arith, c .1 .1 .0) in
-      subst (λ (g : List Found). Search input a g)
-      (λ i. span (sym (c .0) i) (e i) ∷ (block s′ (k + 1) (made k (drop s′ input)) ∷ toFounds input ps))
-      (found-there s′ n′ k (r .1 .0) a ps (omega (arith, c .1 .1 .0)) (λ i j d x y m. r .0 i (j - 1) d (omega (arith, c .0)) (omega (arith, c .0, c .1 .1 .0)) (makes-block input i j d m))
-      (exists (s′ + n′) ps (subst (λ (x : ℕ). Cover (x + n′) ps (length input)) (sym (c .1 .1 .0)) (c .1 .1 .1 .1)) (r .1 .1) l) _ (some (omega (arith, c .1 .0, c .1 .1 .0))))
-  exists a (pieces.span s n ∷ pieces.span s′ n′ ∷ ps) c r l = absurd l
-
-  one-search : Search input 0 (toFounds input (piecesOf input))
-  one-search = let x = searched input bytes in exists 0 (piecesOf input) (x .covers) (x .right) (x .longest)
-
-  -- ---- what comes of it
-
   changed-is : (s k : ℕ) → Changed input s (k + 1) (changedBy k (drop s input))
   changed-is s k =
       let x = changes k (drop s input) in
@@ -234,7 +56,7 @@ module _ (input : List ℕ) (bytes : Below 256 input) where
   unfolding toFounds reportOf Right
   reports [] r = end
   reports (pieces.block s n k ∷ ps) r =
-      subst (λ (m : ℕ). Report input (block s (k + 1) (made k (drop s input)) ∷ toFounds input ps) (s ∷ m ∷ changedBy k (drop s input) ∷ reportOf input ps)) (sym (n-is s n k (r .0)))
+      subst (λ (m : ℕ). Report input (block s (k + 1) (made k (drop s input)) ∷ toFounds input ps) (s ∷ m ∷ changedBy k (drop s input) ∷ reportOf input ps)) (sym (n-is input bytes s n k (r .0)))
       (of-block s (k + 1) (made k (drop s input)) (changedBy k (drop s input)) (changed-is s k) (reports ps (r .1)))
   reports (pieces.span s n ∷ ps) r = of-span s n (reports ps (r .1))
 
@@ -314,6 +136,127 @@ module _ (input : List ℕ) (m r w : ℕ) (bytes : Below 256 input) where
           let big : Small → ⊥ = λ s. not9 (refuses-exactly .nine input m r w .1 (small-is .1 s)) in
           inr (big, inr ((λ f. not18 (refuses-exactly .eighteen input m r w bytes .1 ((λ s. big (small-is .0 s)), none-is .1 f))), refuses-exactly .others input m r w not9 not18))
 
+-- ---- what is true of the finds
+
+module _ (input : List ℕ) (bytes : Below 256 input) where
+  stands : {s n k : ℕ} → FirstCopy input s n k → Stands (made k (drop s input))
+  stands {s} {n} {k} f =
+      let b = made k (drop s input) in
+      let m = makes-it input bytes s n k f .meets in
+      let st = kept input bytes f .stands in
+      let under : Below 256 b = made-bytes k (drop s input) (below input bytes s) in
+      record {
+        meets = m;
+        equal = equal-copies (st .equal);
+        accepted = st .accepted;
+        words = λ room l. reads .words b room under (st .accepted (length room) l) m;
+        copies = λ other room l r d. altering .runs .copies b other room r (st .accepted (length room) l) d;
+        field = λ other room l r a d. altering .runs .field b other room r (st .accepted (length room) l) a d;
+        listed = kept input bytes f .listed;
+      }
+
+  stand-all : (ps : List Piece) → Right input ps → Each Stands (blocksIn (toFounds input ps))
+  unfolding Right toFounds blocksIn Each
+  stand-all [] r = tt
+  stand-all (pieces.block s n k ∷ ps) r = (stands (r .0), stand-all ps (r .1))
+  stand-all (pieces.span s n ∷ ps) r = stand-all ps (r .1)
+
+  lying-is : (ps : List Piece) → Right input ps → lyingOn input (toFounds input ps) ≡ bytesOf input ps
+  unfolding Right toFounds lyingOn bytesOf
+  lying-is [] r = refl
+  lying-is (pieces.block s n k ∷ ps) r =
+      ap₂ (λ (m : ℕ) (l : List ℕ). take m (drop s input) ++ l) (sym (n-is input bytes s n k (r .0))) (lying-is ps (r .1))
+  lying-is (pieces.span s n ∷ ps) r = ap (λ (l : List ℕ). take n (drop s input) ++ l) (lying-is ps (r .1))
+
+  fields-are : (ps : List Piece) → asFields (blocksIn (toFounds input ps)) ≡ fieldsOf input ps
+  unfolding toFounds blocksIn asFields fieldsOf
+  fields-are [] = refl
+  fields-are (pieces.block s n k ∷ ps) = ap (λ (l : List Field). record { tag = 1; body = made k (drop s input) } ∷ l) (fields-are ps)
+  fields-are (pieces.span s n ∷ ps) = fields-are ps
+
+  bodies-are : (ps : List Piece) → backToBack (blocksIn (toFounds input ps)) ≡ bodies (fieldsOf input ps)
+  unfolding toFounds blocksIn backToBack fieldsOf bodies
+  bodies-are [] = refl
+  bodies-are (pieces.block s n k ∷ ps) = ap (λ (l : List ℕ). made k (drop s input) ++ l) (bodies-are ps)
+  bodies-are (pieces.span s n ∷ ps) = bodies-are ps
+
+  bodies-below : (ps : List Piece) → Below 256 (bodies (fieldsOf input ps))
+  unfolding fieldsOf bodies
+  bodies-below [] = tt
+  bodies-below (pieces.block s n k ∷ ps) =
+      below-append 256 (made k (drop s input)) (bodies (fieldsOf input ps)) (made-bytes k (drop s input) (below input bytes s)) (bodies-below ps)
+  bodies-below (pieces.span s n ∷ ps) = bodies-below ps
+
+  -- the recording of any search is that of the pieces
+  recorded-once : (fs : List Found) → Search input 0 fs → recorded fs ≡ recordingOf input (piecesOf input)
+  recorded-once fs s = ap recorded (canonical input bytes fs s) ∙ recorded-is input (piecesOf input)
+
+module _ (input : List ℕ) (bytes : Below 256 input) where
+  abbrev all : List Piece
+  all = piecesOf input
+
+  again : (gs : List Found) → Search (backToBack (blocksIn (toFounds input all))) 0 gs → recorded gs ≡ recorded (toFounds input all)
+  again gs g =
+      recorded-once (bodies (fieldsOf input all)) (bodies-below input bytes all) gs (subst (λ (x : List ℕ). Search x 0 gs) (bodies-are input bytes all) g)
+      ∙ again-same input bytes ∙ sym (recorded-is input all)
+
+  of-finds : OfFinds input (toFounds input all)
+  of-finds =
+      let long = room-suffices .bytes input bytes in
+      let many = room-suffices .entries input bytes in
+      record {
+        covers = lying-is input bytes all (searched input bytes .right) ∙ covers-once input bytes;
+        fields =
+            ap recording.recordingOf (recorded-is input all) ∙ records .fields input
+            ∙ ap (λ (fs : List Field). record { fields = fs; cut = false }) (sym (fields-are input bytes all));
+        stand = stand-all input bytes all (searched input bytes .right);
+        room = omega (arith, long, ap length (recorded-is input all));
+        entries = omega (arith, many, found-count input all);
+        twice = again;
+      }
+
+-- ---- copies in ruins
+
+among-found : (input : List ℕ) (p : Piece) (ps : List Piece) → promises.Among p ps → Among (asFound input p) (toFounds input ps)
+unfolding promises.Among Among toFounds
+among-found input p [] a = a
+among-found input p (q ∷ ps) (inl e) = inl (ap (asFound input) e)
+among-found input p (q ∷ ps) (inr a) = inr (among-found input p ps a)
+
+abbrev IsSpan : Piece → Type 0
+IsSpan (pieces.block s n k) = ⊥
+IsSpan (pieces.span s n) = Unit {0}
+
+-- a block among the pieces is the first copy's
+among-right : (input : List ℕ) (s n k : ℕ) (ps : List Piece) → Right input ps → promises.Among (pieces.block s n k) ps → FirstCopy input s n k
+unfolding promises.Among Right
+among-right input s n k [] r a = absurd a
+among-right input s n k (pieces.block s′ n′ k′ ∷ ps) r (inl e) = subst (λ (p : Piece). Right input (p ∷ [])) (sym e) (r .0, tt) .0
+among-right input s n k (pieces.block s′ n′ k′ ∷ ps) r (inr a) = among-right input s n k ps (r .1) a
+among-right input s n k (pieces.span s′ n′ ∷ ps) r (inl e) = absurd (subst IsSpan (sym e) tt)
+among-right input s n k (pieces.span s′ n′ ∷ ps) r (inr a) = among-right input s n k ps (r .1) a
+
+module _ (before one other behind : List ℕ) (bytes : Below 256 (before ++ (other ++ behind))) (r : Received (Altered 16) one other)
+    (a : Accepted one 21008) (d : drop 90 other ≡ drop 90 one) where
+  abbrev whole : List ℕ
+  whole = before ++ (other ++ behind)
+
+  none-over : NoneOver (toFounds whole (piecesOf whole)) (length before) → promises.NoneOver (piecesOf whole) (length before)
+  none-over over i n k m l =
+      let n-long = n-is whole bytes i n k (among-right whole i n k (piecesOf whole) (searched whole bytes .right) m) in
+      let x = over i (k + 1) (made k (drop i whole)) (among-found whole (pieces.block i n k) (piecesOf whole) m) l in
+      omega (arith, n-long, x)
+
+  ruins : NoneOver (toFounds whole (piecesOf whole)) (length before) → (k : ℕ) × Among (block (length before) k one) (toFounds whole (piecesOf whole))
+  ruins over =
+      let x = restores before one other behind (take 30 one) bytes (receives r) a d (none-over over) in
+      let k = x .0 in
+      let same : one ≡ made k (drop (length before) whole) = makes-exactly .only k (drop (length before) whole) one (below whole bytes (length before)) (x .1 .1) .1 in (
+        k + 1,
+        subst (λ (b : List ℕ). Among (block (length before) (k + 1) b) (toFounds whole (piecesOf whole))) (sym same)
+            (among-found whole (pieces.block (length before) (length one) k) (piecesOf whole) (x .1 .0)),
+      )
+
 pub salvage : Salvage
 salvage =
     record {
@@ -325,9 +268,10 @@ salvage =
       numbers-left = refuses-exactly .reported;
       words-left = refuses-exactly .worded;
       gives = λ input recording report scratch fs b s z. subst (Gives input recording report scratch) (sym (canonical input b fs s)) (gives-canonical input recording report scratch b z);
-      covers = covers-once;
-      records = records;
-      room = room-suffices;
-      restores = restores;
-      twice = again-same;
+      finds = λ input fs b s. subst (OfFinds input) (sym (canonical input b fs s)) (of-finds input b);
+      restores =
+          λ before one other behind fs b r a d s over.
+          let same = canonical (before ++ (other ++ behind)) b fs s in
+          let x = ruins before one other behind b r a d (subst (λ (x : List Found). NoneOver x (length before)) same over) in
+          (x .0, subst (Among (block (length before) (x .0) one)) (sym same) (x .1));
     }

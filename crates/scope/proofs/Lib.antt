@@ -11,5 +11,6 @@ pub mod KeepsWatch
 pub mod KeepsTable
 pub mod KeepsDemands
 pub mod KeepsRecording
+pub mod LawsFound
 pub mod KeepsSalvage
 pub mod KeepsSettled

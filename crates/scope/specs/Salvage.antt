@@ -1,17 +1,19 @@
 -- Salvage of recordings without boundaries: what a search is, said without loops, and what comes of it. Assumes nothing.
-use Prim.Native.Nat.{ℕ, _+_, _-_, _*_, _/_, _%_, _^_, _≤_, _<_}
+use Prim.Native.Nat.{ℕ, _+_, _-_, _*_, _/_, _%_, _≤_, _<_}
 use mathlib.Core.Path.{_≡_}
 use mathlib.Core.Logic.{_⊎_, _↔_}
+use mathlib.Core.Bool.{false}
 use mathlib.Core.List.{List, [], _∷_, _++_}
 use lib.ListN.{length, take, drop}
-use Rattle.bits.specs.Bits.{Below}
+use Rattle.bits.specs.Bits.{Below, words, sent}
 use Rattle.bits.specs.Runs.{Altered}
-use Rattle.block.specs.Answers.{roomAfter}
+use Rattle.block.specs.Answers.{answerOf, roomAfter}
+use Rattle.recording.specs.Fields.{Field, recordingOf}
+use Rattle.recording.specs.Lines.{lineOf}
 use Rattle.salvaging.specs.Answers.{salvagedOf, recordingAfter, reportAfter, scratchAfter}
-use Rattle.salvaging.specs.Promises.{CoversOnce, Records, Restores, AgainSame, RoomSuffices}
 use Rattle.scope.specs.Notions.{Reason, _if_, FirstOf}
 use Rattle.scope.specs.Blocks.{Agrees}
-use Rattle.scope.specs.Demands.{Meets}
+use Rattle.scope.specs.Demands.{Accepted, Meets, Equal, Received, Unchanged}
 
 -- ---- a start with a block
 
@@ -101,6 +103,63 @@ pub record Gives (input recording report scratch : List ℕ) (fs : List Found) :
   pub noted : reportAfter input (length recording) report (length scratch) ≡ numbers ++ drop (length numbers) report
   pub words : scratchAfter input (length recording) (length report) scratch ≡ readAll (blocksIn fs) scratch
 
+-- ---- the pieces of the input
+
+-- the bytes of the input that blocks and spans lie on, joined in order
+unfoldable pub lyingOn : List ℕ → List Found → List ℕ
+lyingOn input [] = []
+lyingOn input (block s k b ∷ fs) = take (length b) (drop s input) ++ lyingOn input fs
+lyingOn input (span s n ∷ fs) = take n (drop s input) ++ lyingOn input fs
+
+unfoldable pub Among : Found → List Found → Type 0
+Among f [] = ⊥
+Among f (g ∷ gs) = (f ≡ g) ⊎ Among f gs
+
+-- no block at a lower start overlaps what lies from a start on
+abbrev pub NoneOver : List Found → ℕ → Type 0
+NoneOver fs s = (i k : ℕ) (b : List ℕ) → Among (block i k b) fs → i < s → i + length b ≤ s
+
+-- ---- the blocks written
+
+-- fields with these blocks, tag 1; and the blocks joined without any fronts
+unfoldable pub asFields : List (List ℕ) → List Field
+asFields [] = []
+asFields (b ∷ bs) = record { tag = 1; body = b } ∷ asFields bs
+
+unfoldable pub backToBack : List (List ℕ) → List ℕ
+backToBack [] = []
+backToBack (b ∷ bs) = b ++ backToBack bs
+
+unfoldable pub Each : (List ℕ → Type 0) → List (List ℕ) → Type 0
+Each P [] = Unit {0}
+Each P (b ∷ bs) = P b × Each P bs
+
+-- Demands 2 and 3 of a block written: it has three equal copies and is accepted, its words are those of its field; altered as demand 3 says it
+-- is found; and the listing answers 0 for it.
+pub record Stands (b : List ℕ) : Type 0 where
+  pub meets : Meets b
+  pub equal : Equal b
+  pub accepted : (lent : ℕ) → 21008 ≤ lent → Accepted b lent
+  pub words : (room : List ℕ) → 21008 ≤ length room
+      → roomAfter b room ≡ words (meets .asked .size) (meets .asked .words) (sent (take (meets .asked .bits / 8) (drop 90 b))) ++ drop (meets .asked .words) room
+  pub copies : (other room : List ℕ) → 21008 ≤ length room → Received (Altered 16) b other → drop 90 other ≡ drop 90 b → Unchanged b other room
+  pub field : (other room : List ℕ) → 21008 ≤ length room → Received (Altered 16) b other → Altered 16 (drop 90 b) (drop 90 other) → (drop 90 b ≡ drop 90 other → ⊥)
+      → answerOf other (length room) .number ≡ 10
+  pub listed : (before : ℕ) → lineOf before 1 b 21008 .answer ≡ 0
+
+-- What is true of the finds of a search.
+pub record OfFinds (input : List ℕ) (fs : List Found) : Type 0 where
+  -- Blocks and spans cover the input once.
+  pub covers : lyingOn input fs ≡ input
+  -- The recording's fields are the blocks so made, in order, and each of them stands.
+  pub fields : recordingOf (recorded fs) ≡ record { fields = asFields (blocksIn fs); cut = false }
+  pub stand : Each Stands (blocksIn fs)
+  -- The room named suffices, so that 9 is never given inside.
+  pub room : length (recorded fs) ≤ length input + 3 * (length input / 2772)
+  pub entries : length fs ≤ 2 * (length input / 2772) + 1
+  -- Salvaging the blocks without their fronts gives the same recording.
+  pub twice : (gs : List Found) → Search (backToBack (blocksIn fs)) 0 gs → recorded gs ≡ recorded fs
+
 pub record Salvage : Type 0 where
   -- Whatever bytes come, there is such a search of them, and only one.
   pub searched : (input : List ℕ) → Below 256 input → (fs : List Found) × Search input 0 fs
@@ -115,10 +174,8 @@ pub record Salvage : Type 0 where
   -- Else it is what the search gives.
   pub gives : (input recording report scratch : List ℕ) (fs : List Found) → Below 256 input → Search input 0 fs
       → salvagedOf input (length recording) (length report) (length scratch) .number ≡ 0 → Gives input recording report scratch fs
-  -- Blocks and spans cover the input once; the recording's fields are the blocks, each stands by demands 2 and 3 and is listed with 0; the room
-  -- named suffices; two copies in ruins are no hindrance; and salvaging twice changes nothing more.
-  pub covers : CoversOnce
-  pub records : Records
-  pub room : RoomSuffices
-  pub restores : Restores
-  pub twice : AgainSame
+  pub finds : (input : List ℕ) (fs : List Found) → Below 256 input → Search input 0 fs → OfFinds input fs
+  -- Two copies in ruins: an accepted block, at most two of its copies altered, each inside one run of 16 bits, is salvaged at its place whenever
+  -- no lower start's block overlaps it.
+  pub restores : (before one other behind : List ℕ) (fs : List Found) → Below 256 (before ++ (other ++ behind)) → Received (Altered 16) one other → Accepted one 21008
+      → drop 90 other ≡ drop 90 one → Search (before ++ (other ++ behind)) 0 fs → NoneOver fs (length before) → (k : ℕ) × Among (block (length before) k one) fs

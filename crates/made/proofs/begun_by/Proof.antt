@@ -1,9 +1,8 @@
 -- `begun_by` meets its contract: the header's plan, then the length, then the check word.
 -- Assumes nothing.
 use mathlib.Core.Path.{ap, _∙_}
-use mathlib.Core.List.{List}
 use native.Mathlib.Omega.{arith}
-use Prim.Native.Nat.{ℕ, _*_}
+use Prim.Native.Nat.{_*_}
 use Rattle.check_rule.specs.Check.{passes}
 use Rattle.copies.specs.Copies.{copyLength}
 use Rattle.header.specs.Plans.{planOf}

@@ -1,14 +1,13 @@
 -- `salvage` meets its contract: two refusals, then a turn for each block.
 -- Assumes nothing.
-use Prim.Native.Nat.{ℕ, _+_, _-_, _*_, _<_, _≤_}
-use mathlib.Core.Path.{_≡_, refl, sym, ap, subst, _∙_}
+use Prim.Native.Nat.{ℕ, _-_, _<_, _≤_}
+use mathlib.Core.Path.{_≡_, sym, ap, subst, _∙_}
 use mathlib.Core.List.{List}
 use native.Mathlib.Omega.{arith}
-use lib.ListN.{length, drop, length-drop}
+use lib.ListN.{length}
 use Rattle.room.specs.Laid.{laid}
 use Rattle.recording.specs.Fields.{written}
 use Rattle.made.specs.Made.{lengthBy}
-use Rattle.copies.specs.Copies.{copiesLength}
 use Rattle.salvaging.specs.Pieces.{fieldBy, changedBy}
 use Rattle.salvaging.proofs.LawsPieces.{gap-short}
 use Rattle.salvaging.proofs.SearchTurns.{rest-is}

@@ -1,9 +1,8 @@
 -- `same` goes on while the bytes are equal: the comparison of the copies is that of what is left of them.
 -- Assumes nothing.
-use Prim.Native.Nat.{ℕ, _+_, _-_, _*_}
-use mathlib.Core.Path.{_≡_, refl, sym, _∙_}
+use Prim.Native.Nat.{_-_}
+use mathlib.Core.Path.{refl, sym, _∙_}
 use native.Mathlib.Omega.{arith}
-use lib.ListN.{length}
 use Rattle.copies.specs.Copies.{copyLength, copyAt}
 use Rattle.copies.proofs.LawsSame.{Comparing, same-goes-on, same-stops, same-ends}
 use Rattle.copies.proofs.LawsAgreed.{copy-long}

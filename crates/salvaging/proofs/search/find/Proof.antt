@@ -1,7 +1,7 @@
 -- `find` meets its contract: both loops are left at the first start and copy with a block, or the starts run out.
 -- Assumes nothing.
 use Prim.Native.Nat.{_-_}
-use mathlib.Core.Path.{ap, _∙_}
+use mathlib.Core.Path.{ap}
 use native.Mathlib.Omega.{arith}
 use lib.ListN.{length}
 use Rattle.salvaging.proofs.SearchTurns.{rest-is, Passed, Tried, begins, untried, passed-all, passes-on, tried-on, hits}
