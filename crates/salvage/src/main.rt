@@ -10,6 +10,7 @@ ghost use Rattle.salvaging.specs.Answers.{bytesFor, numbersFor};
 ghost use Rattle.text.specs.Texts.{bytesOf};
 use libc::STDERR_FILENO;
 use libc::STDOUT_FILENO;
+use made::MOST_WORDS;
 use report::LINE_BYTES;
 use salvaging::ENTRY_NUMBERS;
 use salvaging::Salvaged;
@@ -23,8 +24,6 @@ const READ_BYTES: usize = 65001;
 const RECORDING_BYTES: usize = 65069;
 
 const REPORT_NUMBERS: usize = 141;
-
-const MOST_WORDS: usize = 21008;
 
 // A name as long as any, and `.part` behind it.
 const PART_BYTES: usize = 4101;
