@@ -1,5 +1,6 @@
-//! GVAR blocks, CDA time tags, recordings and the scan watch, over the proved archive `librahmisve.a`. The archive's
-//! manual is include/rahmisve.h. Here a refusal is an `Err` with a [`Refusal`], and a lent room is as it was after one.
+//! GVAR blocks, CDA time tags, recordings, salvage and the scan watch, over the proved archive `librahmisve.a`. The
+//! archive's manual is include/rahmisve.h. Here a refusal is an `Err` with a [`Refusal`], and a lent room is as it was
+//! after one.
 //!
 //! Nothing is allocated and nothing is kept between calls, so that everything may be called from any thread.
 //!
@@ -36,6 +37,7 @@ mod parity;
 mod record;
 mod recording;
 mod refusal;
+mod salvage;
 mod time;
 mod version;
 mod watch;
@@ -46,6 +48,7 @@ pub use parity::{parity_imager, parity_sounder};
 pub use record::{place, record, Place};
 pub use recording::{first_text, last_text, line, line_text, next_field, Field, Fields, Found, Line, Listed};
 pub use refusal::{Refusal, Unlisted};
+pub use salvage::{salvage, salvage_bytes, salvage_entries, Entry, Piece, Pieces, Salvaged};
 pub use time::{elapsed, read_tag, write_tag, Time};
 pub use version::{check_version, version, OtherVersion, VERSION};
 pub use watch::{Verdict, Watch};
@@ -61,6 +64,8 @@ pub const AROUND_BYTES: usize = 92;
 pub const MOST_WORDS: usize = 21_008;
 /// Bytes of the longest block.
 pub const MOST_BYTES: usize = 26_352;
+/// Bytes of the shortest block.
+pub const LEAST_BYTES: usize = 2_772;
 /// Bytes of a time tag.
 pub const TAG_BYTES: usize = 8;
 /// Words of line documentation in front of a record's pixels.
@@ -85,6 +90,8 @@ pub const FIELD_BYTES: usize = 65_538;
 pub const LINE_BYTES: usize = 105;
 /// The tag of a field that holds a block.
 pub const BLOCK_FIELD: u8 = 1;
+/// Numbers of an entry in the report of a salvage.
+pub const ENTRY_NUMBERS: usize = 3;
 
 /// Where a header has the block id: the block's number, or [`BLOCK_0_ID`] for block 0.
 pub const HEADER_ID: usize = 0;

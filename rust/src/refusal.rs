@@ -32,7 +32,7 @@ macro_rules! refusals {
             /// ```
             /// use rahmisve::Refusal;
             /// assert_eq!(Refusal::from_number(10), Some(Refusal::CheckDisagrees));
-            /// assert_eq!((Refusal::from_number(0), Refusal::from_number(18)), (None, None));
+            /// assert_eq!((Refusal::from_number(0), Refusal::from_number(19)), (None, None));
             /// ```
             #[must_use]
             pub const fn from_number(number: u8) -> Option<Refusal> {
@@ -95,6 +95,7 @@ refusals! {
     LongLimit, 16, "a waiting limit above 3,600,000 ms";
     /// No block has one: every field is a multiple of 16 bits.
     OffBoundary, 17, "a check word off its 16-bit boundary";
+    NoBlock, 18, "no start has an acceptable block";
 }
 
 impl fmt::Display for Refusal {
@@ -111,7 +112,7 @@ mod tests {
 
     #[test]
     fn a_number_without_a_name_is_kept() {
-        assert_eq!((Refusal::of(18).number(), Refusal::of(255).number()), (18, 255));
-        assert_eq!(Refusal::of(17), Refusal::OffBoundary);
+        assert_eq!((Refusal::of(19).number(), Refusal::of(255).number()), (19, 255));
+        assert_eq!(Refusal::of(18), Refusal::NoBlock);
     }
 }

@@ -252,7 +252,7 @@ fn a_refusal_says_why() {
     assert_eq!(boxed.to_string(), format!("refusal 12: {text}"));
     for number in 0..=255 {
         let named = Refusal::from_number(number);
-        assert_eq!(named.map(Refusal::number), (1..=17).contains(&number).then_some(number));
+        assert_eq!(named.map(Refusal::number), (1..=18).contains(&number).then_some(number));
     }
 }
 
@@ -328,4 +328,154 @@ fn lines_and_their_texts() {
     let widest = Line { seq: u64::MAX, answer: Ok(Listed { block: 255, version: 255, word_count: usize::MAX }) };
     let wanted = format!("{} 255 255 {} 0\n", u64::MAX, usize::MAX);
     assert_eq!(line_text(&widest, &mut text), Ok(&wanted[..]));
+}
+
+/// Rooms for an input of so many bytes, with something in them.
+struct Rooms {
+    recording: Vec<u8>,
+    report: Vec<Entry>,
+    scratch: Vec<u16>,
+}
+
+impl Rooms {
+    fn of(input_bytes: usize) -> Rooms {
+        Rooms {
+            recording: vec![0xAA; salvage_bytes(input_bytes)],
+            report: vec![[77; ENTRY_NUMBERS]; salvage_entries(input_bytes)],
+            scratch: vec![0xBEEF; MOST_WORDS],
+        }
+    }
+
+    fn salvage(&mut self, input: &[u8]) -> Result<Salvaged<'_>, Refusal> {
+        salvage(input, &mut self.recording, &mut self.report, &mut self.scratch)
+    }
+
+    fn assert_untouched(&self) {
+        assert!(self.recording.iter().all(|byte| *byte == 0xAA));
+        assert!(self.report.iter().all(|entry| *entry == [77; ENTRY_NUMBERS]));
+        assert!(self.scratch.iter().all(|word| *word == 0xBEEF));
+    }
+}
+
+fn junk(count: usize) -> Vec<u8> {
+    (0..count).map(|i| (i * 7 + 3) as u8).collect()
+}
+
+/// Ruins the header copies whose bits are set.
+fn ruined(block: &[u8], copies: usize) -> Vec<u8> {
+    let mut bytes = block.to_vec();
+    for k in (0..COPY_MARKS).filter(|k| copies >> k & 1 == 1) {
+        bytes[30 * k + 5 + k] ^= 0x10;
+    }
+    bytes
+}
+
+#[test]
+fn blocks_among_junk() {
+    let (short, long) = (words(20, 10), words(MOST_WORDS, 10));
+    let one = block(&header(3, 10, 20, 2), &short);
+    let two = block(&header(1, 10, MOST_WORDS as u16, 3), &long);
+    let input = [&junk(137)[..], &one, &ruined(&two, 0b101), &junk(1), &ruined(&one, 0b010), &two[..100]].concat();
+    let length = input.len();
+    let mut rooms = Rooms::of(length + 10_000);
+    let made = rooms.salvage(&input).expect("there are blocks");
+    let wanted = [
+        Piece::Span { start: 0, bytes: 137 },
+        Piece::Block { start: 137, bytes: 2_772, changed: [false; 3] },
+        Piece::Block { start: 2_909, bytes: MOST_BYTES, changed: [true, false, true] },
+        Piece::Span { start: 29_261, bytes: 1 },
+        Piece::Block { start: 29_262, bytes: 2_772, changed: [false, true, false] },
+        Piece::Span { start: 32_034, bytes: 100 },
+    ];
+    let fields = [field(BLOCK_FIELD, &one), field(BLOCK_FIELD, &two), field(BLOCK_FIELD, &one)].concat();
+    assert!(made.pieces().eq(wanted));
+    assert_eq!((made.blocks, made.recording), (3, &fields[..]));
+
+    assert!(
+        rooms.recording[fields.len()..].iter().all(|byte| *byte == 0xAA),
+        "behind the recording nothing is written"
+    );
+    assert!(rooms.report[wanted.len()..].iter().all(|entry| *entry == [77; 3]), "behind the report nothing is written");
+    assert_eq!((&rooms.scratch[..20], &rooms.scratch[20..]), (&short[..], &long[20..]), "the words of each in turn");
+}
+
+#[test]
+fn copies_that_changed() {
+    let good = block(&header(3, 10, 20, 1), &words(20, 10));
+    let mut rooms = Rooms::of(good.len());
+    for ruins in 0..7 {
+        let made = rooms.salvage(&ruined(&good, ruins)).expect("one copy is enough");
+        let changed = core::array::from_fn(|k| ruins >> k & 1 == 1);
+        assert!(made.pieces().eq([Piece::Block { start: 0, bytes: 2_772, changed }]));
+        assert_eq!(made.recording, field(BLOCK_FIELD, &good));
+    }
+    // the first copy passes too, and says something else: what makes a block is used
+    for (place, value, changed) in [(HEADER_SIZE, 9, [true, false, false]), (27, 0, [false, true, true])] {
+        let mut other = good.clone();
+        other[place] = value;
+        let check = check_word(&other[..28]);
+        other[28..30].copy_from_slice(&check.to_be_bytes());
+        let made = rooms.salvage(&other).expect("a copy that makes a block");
+        assert!(made.pieces().eq([Piece::Block { start: 0, bytes: 2_772, changed }]));
+        let used = if changed[0] { &good[..30] } else { &other[..30] };
+        assert_eq!(made.recording[FRONT_BYTES..FRONT_BYTES + 90], [used; 3].concat());
+    }
+}
+
+#[test]
+fn pieces_both_ways() {
+    let good = block(&header(3, 10, 20, 1), &words(20, 10));
+    let input = [&junk(5)[..], &good, &good, &junk(9)].concat();
+    let mut rooms = Rooms::of(input.len());
+    let made = rooms.salvage(&input).expect("two blocks");
+    assert_eq!((made.pieces().len(), made.blocks), (4, 2));
+    let parts: Vec<_> = made.pieces().map(|piece| &input[piece.range()]).collect();
+    assert_eq!(parts.concat(), input);
+    assert_eq!(made.pieces().next_back(), Some(Piece::Span { start: 5_549, bytes: 9 }));
+    let mut ends = made.pieces();
+    assert_eq!((ends.next(), ends.len()), (Some(Piece::Span { start: 0, bytes: 5 }), 3));
+    assert!(ends.by_ref().rev().skip(1).all(|piece| matches!(piece, Piece::Block { .. })));
+    assert_eq!(ends.next(), None);
+    let shown = format!("{:?}", rooms.salvage(&good).expect("a block"));
+    let piece = "Block { start: 0, bytes: 2772, changed: [false, false, false] }";
+    assert_eq!(shown, format!("Salvaged {{ bytes: 2775, blocks: 1, pieces: [{piece}] }}"));
+}
+
+#[test]
+fn rooms_too_small_by_one() {
+    let good = block(&header(3, 10, 20, 1), &words(20, 10));
+    let shrinks: [fn(&mut Rooms) -> bool; 3] =
+        [|r| r.recording.pop().is_some(), |r| r.report.pop().is_some(), |r| r.scratch.pop().is_some()];
+    for input in [&junk(2_771)[..], &junk(2_772), &good, &[&good[..], &good].concat(), &[]] {
+        for shrink in shrinks {
+            let mut rooms = Rooms::of(input.len());
+            // an empty input asks for no recording, which cannot be smaller
+            if shrink(&mut rooms) {
+                assert_eq!(rooms.salvage(input), Err(Refusal::SmallRoom), "{} bytes", input.len());
+                rooms.assert_untouched();
+            }
+        }
+    }
+    assert_eq!(salvage(&[], &mut [], &mut [], &mut []), Err(Refusal::SmallRoom));
+}
+
+#[test]
+fn no_block_anywhere() {
+    let good = block(&header(3, 10, 20, 1), &words(20, 10));
+    let mut damaged = good.clone();
+    damaged[100] ^= 1;
+    for input in [&[][..], &junk(1), &junk(5_000), &good[1..], &good[..2_771], &damaged, &ruined(&good, 0b111)] {
+        let mut rooms = Rooms::of(input.len());
+        assert_eq!(rooms.salvage(input), Err(Refusal::NoBlock), "{} bytes", input.len());
+        rooms.assert_untouched();
+    }
+}
+
+#[test]
+fn rooms_for_an_input() {
+    assert_eq!([0, 2_771, 2_772, 65_000].map(salvage_bytes), [0, 2_771, 2_775, 65_069]);
+    assert_eq!([0, 2_771, 2_772, 65_000].map(salvage_entries), [1, 1, 3, 47]);
+    assert_eq!(salvage_bytes(usize::MAX), usize::MAX);
+    assert_eq!(salvage_entries(usize::MAX), usize::MAX / LEAST_BYTES * 2 + 1);
+    assert_eq!(Piece::Span { start: 1, bytes: usize::MAX }.range(), 1..usize::MAX);
 }
