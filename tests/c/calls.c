@@ -92,7 +92,7 @@ static void stir_words(uint16_t *all, size_t n)
 
 /* Places for answers, all ones before a call and with ones around them: what is not written, or only in part, shows. */
 static struct {
-    size_t count[5];
+    size_t count[7];
     int64_t ms[3];
     uint64_t seq[3];
     uint32_t time[9];
@@ -938,6 +938,219 @@ static void texts(void)
     told("last_text: end and cut, byte for byte");
 }
 
+/* ---- salvage -------------------------------------------------------------------------------------------------------------------- */
+
+enum { TAPE_BYTES = 50000, ENTRIES = RAHMISVE_SALVAGE_ENTRIES(TAPE_BYTES), NUMBERS = ENTRIES * RAHMISVE_ENTRY_NUMBERS };
+enum { RECORDING_BYTES = RAHMISVE_SALVAGE_BYTES(TAPE_BYTES) };
+
+/* An input, at an odd address, and what is to come of it: a recording, a report, and how much each has. */
+static struct {
+    uint8_t before, input[TAPE_BYTES], recording[RECORDING_BYTES];
+    size_t report[ENTRIES][RAHMISVE_ENTRY_NUMBERS];
+    size_t length, bytes, entries, blocks;
+} tape;
+
+/* What is lent for that, each with something around it. */
+static uint8_t recording_here[1 + RECORDING_BYTES + 1], was_recording[sizeof recording_here], was_input[TAPE_BYTES];
+static size_t report_here[1 + NUMBERS + 1], was_report[1 + NUMBERS + 1];
+
+static void new_tape(void) { memset(&tape, 0, sizeof tape); }
+
+static void note(size_t bytes, unsigned found)
+{
+    size_t *entry = tape.report[tape.entries++];
+    entry[RAHMISVE_ENTRY_START] = tape.length;
+    entry[RAHMISVE_ENTRY_BYTES] = bytes;
+    entry[RAHMISVE_ENTRY_FOUND] = found;
+    tape.length += bytes;
+}
+
+static void add_junk(size_t bytes)
+{
+    stir_bytes(tape.input + tape.length, bytes);
+    note(bytes, RAHMISVE_SPAN);
+}
+
+/* The block that is to be found there, as a field of the recording. */
+static void add_field(const uint8_t *block, size_t bytes)
+{
+    uint8_t *field = tape.recording + tape.bytes;
+    field[0] = RAHMISVE_BLOCK_FIELD;
+    field[1] = (uint8_t)(bytes >> 8);
+    field[2] = (uint8_t)(bytes & 255);
+    memcpy(field + RAHMISVE_FRONT_BYTES, block, bytes);
+    tape.bytes += RAHMISVE_FRONT_BYTES + bytes;
+    tape.blocks++;
+}
+
+/* A block 1 of so many words, with the header copies in ruins that are named, as in "13"; its words are what is read to the scratch. */
+static uint8_t *add_block(size_t count, size_t field, const char *ruins)
+{
+    static const unsigned changed[] = {RAHMISVE_CHANGED_FIRST, RAHMISVE_CHANGED_SECOND, RAHMISVE_CHANGED_THIRD};
+    unsigned found = 0;
+    uint8_t *block = tape.input + tape.length;
+    head(header_here, 1, 10, (unsigned)count, 2);
+    stir_to(words_here, count, 10);
+    size_t bytes = block_of(block, words_here, count, 10, field);
+    add_field(block, bytes);
+    for (; *ruins; ruins++) {
+        block[30 * (*ruins - '1') + 5] ^= 0x10;
+        found += changed[*ruins - '1'];
+    }
+    memcpy(was_words + 1, words_here, 2 * count);
+    note(bytes, found);
+    return block;
+}
+
+static uint8_t *add_short(const char *ruins) { return add_block(68, 2680, ruins); }
+
+/* Fills what is lent; a block that is added afterwards writes its words over what is expected of the scratch. */
+static void stir_rooms(void)
+{
+    stir_words(words_there, 24000);
+    memcpy(was_words, words_there, sizeof was_words);
+    stir_bytes(recording_here, sizeof recording_here);
+    memcpy(was_recording, recording_here, sizeof was_recording);
+    memset(report_here, 0x77, sizeof report_here);
+    memcpy(was_report, report_here, sizeof was_report);
+}
+
+/* Salvages the tape in rooms so long, and looks around the places. */
+static unsigned salvage_in(size_t recording, size_t report, size_t scratch)
+{
+    memcpy(was_input, tape.input, sizeof was_input);
+    fresh();
+    unsigned number = rahmisve_salvage(tape.length ? tape.input : NULL, tape.length, recording ? recording_here + 1 : NULL, recording,
+                                       report ? report_here + 1 : NULL, report, scratch ? words_there + 1 : NULL, scratch, &at.count[1],
+                                       &at.count[3], &at.count[5]);
+    for (int i = 0; i < 7; i += 2)
+        IS(ones(&at.count[i], 8));
+    IS(memcmp(tape.input, was_input, sizeof was_input) == 0);
+    IS(memcmp(words_there, was_words, sizeof was_words) == 0);
+    IS(memcmp(recording_here, was_recording, sizeof was_recording) == 0);
+    IS(memcmp(report_here, was_report, sizeof was_report) == 0);
+    return number;
+}
+
+/* The rooms as they are to be afterwards, and the places. */
+static void salvaged(size_t recording, size_t report, size_t scratch)
+{
+    memcpy(was_recording + 1, tape.recording, tape.bytes);
+    memcpy(was_report + 1, tape.report, tape.entries * sizeof *tape.report);
+    IS(salvage_in(recording, report, scratch) == RAHMISVE_ANSWER_ACCEPTED);
+    IS(at.count[1] == tape.bytes && at.count[3] == tape.entries && at.count[5] == tape.blocks);
+}
+
+/* The least rooms that the tape asks for, by the header and as the scope has it. */
+static size_t least_bytes(void)
+{
+    size_t bytes = RAHMISVE_SALVAGE_BYTES(tape.length);
+    IS(bytes == tape.length + 3 * (tape.length / 2772));
+    return bytes;
+}
+
+static size_t least_numbers(void)
+{
+    size_t numbers = RAHMISVE_SALVAGE_ENTRIES(tape.length) * RAHMISVE_ENTRY_NUMBERS;
+    IS(numbers == 6 * (tape.length / 2772) + 3);
+    return numbers;
+}
+
+static void not_salvaged(unsigned number, size_t recording, size_t report, size_t scratch)
+{
+    stir_rooms();
+    IS(salvage_in(recording, report, scratch) == number);
+    IS(at.count[1] == 0 && at.count[3] == 0 && at.count[5] == 0);
+}
+
+/* Each room one too small; an empty input asks for no bytes of recording, so these cannot be fewer. */
+static void small_rooms(void)
+{
+    size_t recording = least_bytes(), report = least_numbers(), scratch = RAHMISVE_MOST_WORDS;
+    if (recording > 0)
+        not_salvaged(RAHMISVE_ANSWER_SMALL_ROOM, recording - 1, report, scratch);
+    not_salvaged(RAHMISVE_ANSWER_SMALL_ROOM, recording, report - 1, scratch);
+    not_salvaged(RAHMISVE_ANSWER_SMALL_ROOM, recording, report, scratch - 1);
+    not_salvaged(RAHMISVE_ANSWER_SMALL_ROOM, 0, 0, 0);
+}
+
+static void no_block(void) { not_salvaged(RAHMISVE_ANSWER_NO_BLOCK, least_bytes(), least_numbers(), RAHMISVE_MOST_WORDS); }
+
+static void salvage(void)
+{
+    static const char *const ruins[] = {"12", "13", "23", "1", "2", "3"};
+    stir_rooms();
+    new_tape();
+    add_junk(137);
+    add_block(RAHMISVE_MOST_WORDS, MOST_FIELD, "");
+    add_short("");
+    add_junk(1);
+    add_short("");
+    add_junk(2771);
+    salvaged(RECORDING_BYTES, NUMBERS, RAHMISVE_MOST_WORDS + 3);
+    told("salvage: blocks with junk before, between and behind them, every number in its place, nothing behind what is written changed");
+    for (int i = 0; i < 6; i++) {
+        stir_rooms();
+        new_tape();
+        add_junk(1);
+        add_short(ruins[i]);
+        add_short(ruins[5 - i]);
+        salvaged(least_bytes(), least_numbers(), RAHMISVE_MOST_WORDS);
+    }
+    told("salvage: one copy and two in ruins, each of them, in rooms just long enough");
+
+    stir_rooms();
+    new_tape();
+    uint8_t *block = add_short("1");
+    block[RAHMISVE_HEADER_ID] = 12;
+    seal(block, 28);
+    salvaged(least_bytes(), least_numbers(), RAHMISVE_MOST_WORDS);
+    stir_rooms();
+    new_tape();
+    block = add_short("");
+    block[27] = 0;
+    seal(block, 28);
+    tape.report[0][RAHMISVE_ENTRY_FOUND] = RAHMISVE_CHANGED_SECOND + RAHMISVE_CHANGED_THIRD;
+    for (int k = 0; k < 3; k++)
+        memcpy(tape.recording + RAHMISVE_FRONT_BYTES + 30 * k, block, 30);
+    salvaged(least_bytes(), least_numbers(), RAHMISVE_MOST_WORDS);
+    told("salvage: of copies that pass and differ the first that makes a block");
+}
+
+static void refused_by_salvage(void)
+{
+    new_tape();
+    small_rooms();
+    no_block();
+    for (size_t bytes = 2771; bytes <= 2773; bytes++) {
+        new_tape();
+        add_junk(bytes);
+        small_rooms();
+        no_block();
+    }
+    stir_rooms();
+    new_tape();
+    add_short("");
+    small_rooms();
+    add_short("1");
+    add_junk(5);
+    small_rooms();
+    told("salvage: a room too small by one, whatever the input holds, and nothing has changed");
+    new_tape();
+    add_short("123");
+    no_block();
+    new_tape();
+    uint8_t *block = add_short("");
+    tape.length--;
+    no_block();
+    block[90 + 2679] ^= 1;
+    tape.length++;
+    no_block();
+    seal(block + 90, 2680);
+    no_block();
+    told("salvage: no block, nor a part or a damaged one, nor anything at NULL: nothing has changed");
+}
+
 int main(void)
 {
     good = 1;
@@ -961,5 +1174,7 @@ int main(void)
     next_field();
     line();
     texts();
+    salvage();
+    refused_by_salvage();
     return !all_good;
 }

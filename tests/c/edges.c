@@ -1,6 +1,8 @@
-/* edges: words out of fields and into fields that end where the memory ends, or begin where it begins, and the words do so too. No byte is
- * read or written beyond, or the program ends by a fault. Prints a line `ok - ..` or `not ok - ..` for each size of a word and each way.
- * edges taken | put | words | front: a call that is lent a byte or a word more than there is, and therefore has to end by a fault. */
+/* edges: words out of fields and into fields that end where the memory ends, or begin where it begins, and the words do so too; then what
+ * salvage is lent, in the same places. No byte is read or written beyond, or the program ends by a fault. Prints a line `ok - ..` or
+ * `not ok - ..` for each size of a word and each way, and for each kind of input.
+ * edges taken | put | words | front | input | recording | entries | scratch: a call that is lent a byte, a word or an entry more than there
+ * is, and therefore has to end by a fault. */
 #define _DEFAULT_SOURCE
 #include <stdio.h>
 #include <string.h>
@@ -22,7 +24,7 @@ struct memory {
     uint8_t *begin, *end;
 };
 
-static struct memory fields, rooms;
+static struct memory fields, rooms, recordings, reports;
 static int all_good = 1;
 
 static int has_ends(struct memory *memory)
@@ -35,14 +37,20 @@ static int has_ends(struct memory *memory)
     return mprotect(pages, PAGE_BYTES, PROT_NONE) == 0 && mprotect(memory->end, PAGE_BYTES, PROT_NONE) == 0;
 }
 
+/* So many bytes at the end of a memory, or at its beginning. */
+static void *part_of(struct memory memory, int end, size_t bytes)
+{
+    return end ? memory.end - bytes : memory.begin;
+}
+
 static uint8_t *bytes_at(int end, size_t bytes)
 {
-    return end ? fields.end - bytes : fields.begin;
+    return part_of(fields, end, bytes);
 }
 
 static uint16_t *words_at(int end, size_t count)
 {
-    return (uint16_t *)(void *)(end ? rooms.end - count * sizeof(uint16_t) : rooms.begin);
+    return part_of(rooms, end, count * sizeof(uint16_t));
 }
 
 static unsigned drawn(void)
@@ -55,6 +63,12 @@ static unsigned drawn(void)
 static void told(int good, unsigned size, const char *what)
 {
     printf("%s - words of %u bits %s\n", good ? "ok" : "not ok", size, what);
+    all_good &= good;
+}
+
+static void told_of_salvage(int good, const char *what)
+{
+    printf("%s - salvage of %s, where memory ends, and where it begins\n", good ? "ok" : "not ok", what);
     all_good &= good;
 }
 
@@ -166,7 +180,78 @@ static int all_refused(unsigned size)
     return good;
 }
 
-/* Whether it went well, which it cannot: words for a byte that is behind the memory or in front of it, or one word more than there are. */
+/* ---- salvage */
+
+/* How much of what is lent lies behind its memory: nothing, but where a fault is asked for. */
+static struct {
+    size_t bytes, recording, numbers, words;
+} beyond;
+
+static uint8_t block[RAHMISVE_MOST_BYTES];
+
+/* Makes a block 1 of so many words, and says how long it is. */
+static size_t make_block(unsigned count)
+{
+    static uint16_t words[RAHMISVE_MOST_WORDS];
+    uint8_t header[RAHMISVE_HEADER_BYTES] = {1, 10};
+    size_t bytes = 0;
+    header[RAHMISVE_HEADER_COUNT] = (uint8_t)((count + RAHMISVE_EXTRA_WORDS) >> 8);
+    header[RAHMISVE_HEADER_COUNT + 1] = (uint8_t)((count + RAHMISVE_EXTRA_WORDS) & 255);
+    for (unsigned i = 0; i < count; i++)
+        words[i] = (uint16_t)(drawn() >> 6);
+    rahmisve_write(header, sizeof header, words, count, block, sizeof block, &bytes);
+    return bytes;
+}
+
+/* Whether this is the answer to the first bytes of the block with junk around them, and the block then in the recording where it is found.
+ * All that is lent is just as long as is asked for. */
+static int salvaged(unsigned answer, int end, size_t before, size_t bytes, size_t behind)
+{
+    size_t length = before + bytes + behind, room = RAHMISVE_SALVAGE_BYTES(length), made, entries, blocks;
+    size_t numbers = RAHMISVE_SALVAGE_ENTRIES(length) * RAHMISVE_ENTRY_NUMBERS;
+    uint8_t *input = bytes_at(end, length - beyond.bytes);
+    uint8_t *recording = part_of(recordings, end, room - beyond.recording);
+    size_t *report = part_of(reports, end, (numbers - beyond.numbers) * sizeof *report);
+    uint16_t *scratch = words_at(end, RAHMISVE_MOST_WORDS - beyond.words);
+    memset(input, UNTOUCHED, length - beyond.bytes);
+    memcpy(input + before, block, bytes - beyond.bytes);
+    if (rahmisve_salvage(input, length, recording, room, report, numbers, scratch, RAHMISVE_MOST_WORDS, &made, &entries, &blocks) != answer)
+        return 0;
+    if (answer != RAHMISVE_ANSWER_ACCEPTED)
+        return blocks == 0;
+    return blocks == 1 && made == RAHMISVE_FRONT_BYTES + bytes && memcmp(recording + RAHMISVE_FRONT_BYTES, block, bytes) == 0;
+}
+
+static int at_both_ends(unsigned answer, size_t before, size_t bytes, size_t behind)
+{
+    return salvaged(answer, 1, before, bytes, behind) & salvaged(answer, 0, before, bytes, behind);
+}
+
+static int all_salvaged(unsigned words)
+{
+    static const size_t junk[] = {0, 1, 30, 89, 90};
+    enum { KINDS = sizeof junk / sizeof *junk };
+    size_t bytes = make_block(words);
+    int good = 1;
+    for (int i = 0; i < KINDS * KINDS; i++)
+        good &= at_both_ends(RAHMISVE_ANSWER_ACCEPTED, junk[i / KINDS], bytes, junk[i % KINDS]);
+    return good;
+}
+
+/* Blocks that stop: in each byte of the header copies and a little behind them, and just before their ends. */
+static int all_stopped(unsigned words)
+{
+    size_t bytes = make_block(words);
+    int good = at_both_ends(RAHMISVE_ANSWER_NO_BLOCK, 0, bytes - 1, 0) & at_both_ends(RAHMISVE_ANSWER_NO_BLOCK, 1, bytes - 1, 0);
+    for (size_t part = 0; part <= 100; part++)
+        good &= at_both_ends(RAHMISVE_ANSWER_NO_BLOCK, 0, part, 0) & at_both_ends(RAHMISVE_ANSWER_NO_BLOCK, 7, part, 0);
+    return good;
+}
+
+/* ---- more than there is */
+
+/* Whether it went well, which it cannot: words for a byte that is behind the memory or in front of it, or one word more than there are; or
+ * salvage with the last of what it uses, a byte, a number or a word, behind the memory. */
 static int lent_too_much(char what)
 {
     const uint16_t *words = words_at(1, 20);
@@ -177,6 +262,18 @@ static int lent_too_much(char what)
         return rahmisve_put_words(words, 20, 10, bytes_at(1, 24), 25) == RAHMISVE_ANSWER_ACCEPTED;
     case 'w':
         return rahmisve_put_words(words, 21, 10, bytes_at(1, 27), 27) == RAHMISVE_ANSWER_ACCEPTED;
+    case 'i':
+        beyond.bytes = 1;
+        return salvaged(RAHMISVE_ANSWER_ACCEPTED, 1, 0, make_block(68), 0);
+    case 'r':
+        beyond.recording = 1;
+        return salvaged(RAHMISVE_ANSWER_ACCEPTED, 1, 0, make_block(68), 0);
+    case 'e':
+        beyond.numbers = 1;
+        return salvaged(RAHMISVE_ANSWER_ACCEPTED, 1, 1, make_block(68), 1);
+    case 's':
+        beyond.words = 1;
+        return salvaged(RAHMISVE_ANSWER_ACCEPTED, 1, 0, make_block(RAHMISVE_MOST_WORDS), 0);
     default:
         return rahmisve_put_words(words, 20, 10, bytes_at(0, 25) - 1, 25) == RAHMISVE_ANSWER_ACCEPTED;
     }
@@ -184,7 +281,7 @@ static int lent_too_much(char what)
 
 int main(int argc, char **argv)
 {
-    if (!has_ends(&fields) || !has_ends(&rooms)) {
+    if (!has_ends(&fields) || !has_ends(&rooms) || !has_ends(&recordings) || !has_ends(&reports)) {
         perror("mmap");
         return 2;
     }
@@ -196,5 +293,8 @@ int main(int argc, char **argv)
         told(all_put(size), size, "are put where memory ends, and where it begins, with any fill behind them");
     for (unsigned size = 1; size < 16; size++)
         told(all_refused(size), size, "with one too large among them are refused, and the field is as it was");
+    told_of_salvage(all_salvaged(68), "a short block among junk");
+    told_of_salvage(all_salvaged(RAHMISVE_MOST_WORDS), "the longest block among junk");
+    told_of_salvage(all_stopped(68) & all_stopped(RAHMISVE_MOST_WORDS), "blocks that stop");
     return !all_good;
 }

@@ -9,9 +9,10 @@ static uint8_t stack[65536] __attribute__((aligned(16)));
 
 static uint8_t header[RAHMISVE_HEADER_BYTES], common[RAHMISVE_HEADER_BYTES], copies[RAHMISVE_COPY_MARKS], block[RAHMISVE_MOST_BYTES];
 static uint8_t one[4], text[RAHMISVE_LINE_BYTES], holds[RAHMISVE_IMAGER_MARKS], tag[RAHMISVE_TAG_BYTES], field[RAHMISVE_MOST_BYTES];
+static uint8_t recording[RAHMISVE_SALVAGE_BYTES(sizeof block)];
 static uint16_t words[RAHMISVE_MOST_WORDS];
 static uint32_t time[RAHMISVE_TIME_NUMBERS], watch[RAHMISVE_WATCH_NUMBERS];
-static size_t bytes, count[2];
+static size_t bytes, count[3], report[RAHMISVE_SALVAGE_ENTRIES(sizeof block)][RAHMISVE_ENTRY_NUMBERS];
 static uint64_t seq;
 static int64_t ms;
 
@@ -34,6 +35,11 @@ static uint8_t line(void) { return rahmisve_line(0, 1, block, bytes, words, RAHM
 static uint8_t first_text(void) { return rahmisve_first_text(text, sizeof text, count); }
 static uint8_t line_text(void) { return rahmisve_line_text((uint64_t)-1, 255, 255, (size_t)-1, 0, text, sizeof text, count); }
 static uint8_t last_text(void) { return rahmisve_last_text(1, (uint64_t)-1, text, sizeof text, count); }
+static uint8_t salvage(void)
+{
+    return rahmisve_salvage(block, sizeof block, recording, sizeof recording, report[0], sizeof report / sizeof report[0][0], words,
+                            RAHMISVE_MOST_WORDS, count, count + 1, count + 2);
+}
 static uint8_t check_word(void) { return rahmisve_check_word(block, bytes) == 0; }
 static uint8_t take_words(void) { return rahmisve_take_words(field, sizeof field, 10, 68, words, RAHMISVE_MOST_WORDS); }
 static uint8_t put_words(void) { return rahmisve_put_words(words, 68, 10, field, sizeof field); }
@@ -43,7 +49,7 @@ static const struct { const char *name; uint8_t (*call)(void); } calls[] = {
     CALL(version),       CALL(write),          CALL(read),      CALL(plan),       CALL(record),     CALL(place),
     CALL(parity_imager), CALL(parity_sounder), CALL(write_tag), CALL(read_tag),   CALL(elapsed),    CALL(watch_begin),
     CALL(watch_offer),   CALL(next_field),     CALL(line),      CALL(first_text), CALL(line_text),  CALL(last_text),
-    CALL(check_word),    CALL(take_words),     CALL(put_words),
+    CALL(salvage),       CALL(check_word),     CALL(take_words), CALL(put_words),
 };
 
 /* How far down the paint is gone after a call on the painted stack. */
