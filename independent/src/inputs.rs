@@ -1,8 +1,10 @@
 //! Inputs from seeded dice: sound ones first, then damaged in many ways. Which
 //! answer an input must get is the model's business, not settled here.
 
+use crate::block::write;
 use crate::check::check_bytes;
 use crate::compare::{Case, Start};
+use crate::document;
 use crate::header::{self, sealed, HEADER};
 use crate::rows::{self, LARGEST_C, LARGEST_N};
 use crate::tags::{days_in, Tag};
@@ -160,6 +162,22 @@ pub fn draft(dice: &mut Dice) -> Draft {
         header[16..24].copy_from_slice(&sound_tag(dice));
     }
     Draft { header, words: some_words(dice, size, c), block, version, size }
+}
+
+/// A block of a scan of `n` pixels, or of the fixed length, with words that can be told from one another.
+pub fn scanned(number: u8, version: u8, n: usize) -> Vec<u8> {
+    let (size, c) = match number {
+        0 => (8, 8_040),
+        11 => [(6, 10_720), (8, 8_040), (10, 6_432), (8, 8_040)][version as usize],
+        _ => (10, rows::c_of_n(number, version, n)),
+    };
+    let words: Vec<u16> = (0..c).map(|k| ((k * 7 + version as usize) % (1 << size)) as u16).collect();
+    let mut dest = vec![0; 32_000];
+    let (answer, length) =
+        write(&document::header(rows::id_of_block(number), size, version, c as u16), &words, &mut dest);
+    assert_eq!(answer, 0);
+    dest.truncate(length);
+    dest
 }
 
 // ---- damaged blocks ----

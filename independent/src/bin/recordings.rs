@@ -9,27 +9,12 @@ use std::process::ExitCode;
 use independent::block::write;
 use independent::check::check_bytes;
 use independent::document::header;
-use independent::inputs::{digits, field, recording, tag_at, Dice};
+use independent::inputs::{digits, field, recording, scanned, tag_at, Dice};
 use independent::recording::list;
 use independent::rows::{c_of_n, id_of_block, records, LARGEST_N};
 use independent::tags::Tag;
 
-/// A block of a scan of `n` pixels, or of the fixed length.
-fn scanned(number: u8, version: u8, n: usize) -> Vec<u8> {
-    let (size, c) = match number {
-        0 => (8, 8_040),
-        11 => [(6, 10_720), (8, 8_040), (10, 6_432), (8, 8_040)][version as usize],
-        _ => (10, c_of_n(number, version, n)),
-    };
-    let words: Vec<u16> = (0..c).map(|k| ((k * 7 + version as usize) % (1 << size)) as u16).collect();
-    let mut dest = vec![0; 32_000];
-    let (answer, length) = write(&header(id_of_block(number), size, version, c as u16), &words, &mut dest);
-    assert_eq!(answer, 0);
-    dest.truncate(length);
-    dest
-}
-
-/// The same of the narrowest scan.
+/// A block of the narrowest scan.
 fn block(number: u8, version: u8) -> Vec<u8> {
     scanned(number, version, 1)
 }
