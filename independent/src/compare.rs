@@ -4,8 +4,9 @@ use std::collections::BTreeMap;
 use std::fmt::Write;
 
 use crate::inputs::{self, Dice};
-use crate::library::{FieldAnswer, Library, LineAnswer, Model, ReadAnswer};
+use crate::library::{FieldAnswer, Library, LineAnswer, Model, ReadAnswer, SalvageAnswer};
 use crate::rows;
+use crate::salvage::{changed_text, ENTRY_NUMBERS, SPAN};
 use crate::tags::Tag;
 use crate::watch::{Verdict, Watch};
 
@@ -36,6 +37,7 @@ pub enum Case {
     FirstText { room: Vec<u8> },
     LineText { seq: u64, block: u32, version: u32, words: usize, answer: u32, room: Vec<u8> },
     LastText { cut: u32, fields: u64, room: Vec<u8> },
+    Salvage { input: Vec<u8>, recording: Vec<u8>, report: Vec<usize>, scratch: Vec<u16>, shift: usize },
     List { recording: Vec<u8> },
 }
 
@@ -56,6 +58,8 @@ pub enum Answer {
     Field(FieldAnswer),
     Line(LineAnswer),
     Text(u8, usize),
+    /// With what was found, entry by entry.
+    Salvaged(SalvageAnswer, Vec<usize>),
     Listing(String),
 }
 
@@ -65,6 +69,7 @@ pub struct Outcome {
     pub answer: Answer,
     pub bytes: Vec<(&'static str, Lent<u8>)>,
     pub words: Vec<(&'static str, Lent<u16>)>,
+    pub numbers: Vec<(&'static str, Lent<usize>)>,
 }
 
 const AROUND: usize = 24;
@@ -102,9 +107,14 @@ pub(crate) fn lend_words(content: &[u16], shift: usize) -> Lent<u16> {
     Lent::new(content, shift, 0xA5C3)
 }
 
+fn lend_numbers(content: &[usize], shift: usize) -> Lent<usize> {
+    Lent::new(content, shift, 0xA5C3_A5C3)
+}
+
 pub fn run(library: &dyn Library, case: &Case) -> Outcome {
     let mut bytes = Vec::new();
     let mut words = Vec::new();
+    let mut numbers = Vec::new();
     let answer = match case {
         Case::CheckWord { bytes: lent } => {
             let lent = lend_bytes(lent, 0);
@@ -222,6 +232,20 @@ pub fn run(library: &dyn Library, case: &Case) -> Outcome {
             bytes.push(("room", room));
             Answer::Text(number, written)
         }
+        Case::Salvage { input, recording, report, scratch, shift } => {
+            let input = lend_bytes(input, *shift);
+            let mut recording = lend_bytes(recording, *shift);
+            let mut report = lend_numbers(report, *shift);
+            let mut scratch = lend_words(scratch, *shift);
+            let answer = library.salvage(input.get(), recording.get_mut(), report.get_mut(), scratch.get_mut());
+            let entries = report.get().chunks_exact(ENTRY_NUMBERS).take(answer.entries);
+            let found = entries.map(|entry| entry[2]).collect();
+            bytes.push(("input", input));
+            bytes.push(("recording", recording));
+            numbers.push(("report", report));
+            words.push(("scratch", scratch));
+            Answer::Salvaged(answer, found)
+        }
         Case::List { recording } => {
             let lent = lend_bytes(recording, 0);
             let listing = library.list(lent.get());
@@ -229,7 +253,7 @@ pub fn run(library: &dyn Library, case: &Case) -> Outcome {
             Answer::Listing(listing)
         }
     };
-    Outcome { answer, bytes, words }
+    Outcome { answer, bytes, words, numbers }
 }
 
 pub(crate) fn hex(bytes: &[u8]) -> String {
@@ -261,6 +285,7 @@ impl Case {
             Case::FirstText { .. } => "first text",
             Case::LineText { .. } => "line text",
             Case::LastText { .. } => "last text",
+            Case::Salvage { .. } => "salvage",
             Case::List { .. } => "list",
         }
     }
@@ -311,6 +336,11 @@ impl Case {
                 writeln!(text, "  before: {before}, tag: {tag}, shift: {shift}").unwrap();
                 writeln!(text, "  room, {} words: {}", room.len(), hex_words(room)).unwrap();
             }
+            Case::Salvage { input, recording, report, scratch, shift } => {
+                bytes("input", input);
+                let rooms = [recording.len(), report.len(), scratch.len()];
+                writeln!(text, "  rooms: {rooms:?}, shift: {shift}").unwrap();
+            }
             Case::List { recording } => bytes("recording", recording),
             Case::Place { .. }
             | Case::WriteTag { .. }
@@ -333,6 +363,10 @@ fn labels(answer: &Answer) -> Vec<String> {
         Answer::Field(field) => vec![format!("{:?}", field.found)],
         Answer::Line(line) => vec![line.number.to_string()],
         Answer::Offers(_, verdicts) => verdicts.iter().map(|(verdict, _)| format!("{verdict:?}")).collect(),
+        Answer::Salvaged(answer, found) => {
+            let name = |&found| if found == SPAN { "span".into() } else { format!("block {}", changed_text(found)) };
+            [answer.number.to_string()].into_iter().chain(found.iter().map(name)).collect()
+        }
         Answer::Listing(text) => {
             let lines: Vec<&str> = text.lines().skip(1).collect();
             lines
@@ -391,6 +425,9 @@ pub fn difference(library: &dyn Library, case: &Case, ours: &Outcome) -> Option<
     for ((name, ours), (_, theirs)) in ours.words.iter().zip(&theirs.words) {
         text += &first_difference(name, ours, theirs);
     }
+    for ((name, ours), (_, theirs)) in ours.numbers.iter().zip(&theirs.numbers) {
+        text += &first_difference(name, ours, theirs);
+    }
     Some(text)
 }
 
@@ -399,7 +436,7 @@ pub fn difference(library: &dyn Library, case: &Case, ours: &Outcome) -> Option<
 pub struct Tally(pub BTreeMap<(&'static str, String), u64>);
 
 impl Tally {
-    fn count(&mut self, kind: &'static str, answer: &Answer) {
+    pub fn count(&mut self, kind: &'static str, answer: &Answer) {
         for label in labels(answer) {
             *self.0.entry((kind, label)).or_default() += 1;
         }

@@ -144,6 +144,11 @@ pub fn draft(dice: &mut Dice) -> Draft {
         0 => dice.pick(&[1, 2, 2, 11]),
         _ => dice.below(12) as u8,
     };
+    draft_of(dice, block, pixels)
+}
+
+/// The same of a given block, with as many pixels as are drawn, where it has pixels.
+pub fn draft_of(dice: &mut Dice, block: u8, pixels: fn(&mut Dice) -> usize) -> Draft {
     let version = some_version(dice, block);
     let (size, c) = match block {
         0 => (8, 8_040),
@@ -183,20 +188,20 @@ pub fn scanned(number: u8, version: u8, n: usize) -> Vec<u8> {
 // ---- damaged blocks ----
 
 #[derive(Clone)]
-struct Parts {
-    copies: [[u8; 30]; 3],
+pub(crate) struct Parts {
+    pub(crate) copies: [[u8; 30]; 3],
     field: Vec<u8>,
     check: [u8; 2],
 }
 
 impl Parts {
-    fn of(draft: &Draft) -> Parts {
+    pub(crate) fn of(draft: &Draft) -> Parts {
         let bytes = rows::field_bits(draft.block, draft.words.len()) / 8;
         let field = words::pack(&draft.words, draft.size, bytes);
         Parts { copies: [sealed(&draft.header); 3], check: check_bytes(&field), field }
     }
 
-    fn joined(&self) -> Vec<u8> {
+    pub(crate) fn joined(&self) -> Vec<u8> {
         let mut block = self.copies.concat();
         block.extend(&self.field);
         block.extend(self.check);
@@ -239,7 +244,7 @@ fn flip_scattered(dice: &mut Dice, bytes: &mut [u8]) {
     }
 }
 
-fn damage_copy(dice: &mut Dice, copy: &mut [u8; 30]) {
+pub(crate) fn damage_copy(dice: &mut Dice, copy: &mut [u8; 30]) {
     match dice.below(5) {
         0 | 1 => {
             let length = dice.run();
@@ -265,7 +270,7 @@ fn spoilt_check(dice: &mut Dice, check: [u8; 2]) -> [u8; 2] {
 }
 
 /// Another header that passes: one byte or one bit different.
-fn other_copy(dice: &mut Dice, copy: &[u8; 30]) -> [u8; 30] {
+pub(crate) fn other_copy(dice: &mut Dice, copy: &[u8; 30]) -> [u8; 30] {
     let mut header: [u8; HEADER] = copy[..HEADER].try_into().unwrap();
     let place = dice.below(8 * HEADER);
     flip(&mut header, place);

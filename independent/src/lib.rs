@@ -1,10 +1,11 @@
-//! Blocks, time tags, parity, the watch and recordings, written a second time
-//! from the specification so that a library can be compared with it. Plain code
-//! comes before quick code everywhere here.
+//! Blocks, time tags, parity, the watch, recordings and their salvage, written a
+//! second time from the specification so that a library can be compared with it.
+//! Plain code comes before quick code everywhere here.
 
 pub mod block;
 pub mod check;
 pub mod compare;
+pub mod compare_salvages;
 pub mod compare_words;
 pub mod document;
 pub mod header;
@@ -16,7 +17,10 @@ pub mod placement;
 pub mod real;
 pub mod recording;
 pub mod rows;
+pub mod salvage;
 pub mod tags;
+pub mod tapes;
 pub mod watch;
 pub mod words;
 pub mod wrong;
+pub mod wrong_salvage;

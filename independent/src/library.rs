@@ -4,7 +4,7 @@
 use crate::rows::LARGEST_C;
 use crate::tags::Tag;
 use crate::watch::{Verdict, Watch};
-use crate::{block, check, parity, placement, recording, tags, watch, words};
+use crate::{block, check, parity, placement, recording, salvage, tags, watch, words};
 
 #[derive(Clone, Debug, PartialEq, Eq)]
 pub struct ReadAnswer {
@@ -58,6 +58,21 @@ impl LineAnswer {
     }
 }
 
+/// Bytes of the recording, entries of the report, and how many of these are blocks.
+#[derive(Clone, Copy, Debug, PartialEq, Eq)]
+pub struct SalvageAnswer {
+    pub number: u8,
+    pub bytes: usize,
+    pub entries: usize,
+    pub blocks: usize,
+}
+
+impl SalvageAnswer {
+    pub fn refused(number: u8) -> SalvageAnswer {
+        SalvageAnswer { number, bytes: 0, entries: 0, blocks: 0 }
+    }
+}
+
 pub trait Library {
     fn check_word(&self, bytes: &[u8]) -> u16;
     fn take_words(&self, field: &[u8], size: u32, count: usize, room: &mut [u16]) -> u8;
@@ -82,6 +97,8 @@ pub trait Library {
     fn first_text(&self, room: &mut [u8]) -> (u8, usize);
     fn line_text(&self, seq: u64, block: u32, version: u32, words: usize, answer: u32, room: &mut [u8]) -> (u8, usize);
     fn last_text(&self, cut: u32, fields: u64, room: &mut [u8]) -> (u8, usize);
+    /// An entry of the report is three numbers.
+    fn salvage(&self, input: &[u8], recording: &mut [u8], report: &mut [usize], scratch: &mut [u16]) -> SalvageAnswer;
 
     fn list(&self, recording: &[u8]) -> String;
 }
@@ -172,6 +189,9 @@ impl Library for Model {
     }
     fn last_text(&self, cut: u32, fields: u64, room: &mut [u8]) -> (u8, usize) {
         recording::last_text(cut, fields, room)
+    }
+    fn salvage(&self, input: &[u8], recording: &mut [u8], report: &mut [usize], scratch: &mut [u16]) -> SalvageAnswer {
+        salvage::salvage(input, recording, report, scratch)
     }
     fn list(&self, recording: &[u8]) -> String {
         recording::list(recording)

@@ -1,26 +1,33 @@
 //! compare SEED COUNT [FAULT]: the model against the library, or, with a fault (a number from 1), against one that is wrong on purpose.
-//! Exit status 1 on a difference, 2 on bad arguments.
+//! One salvage is compared for every twenty cases. Exit status 1 on a difference, 2 on bad arguments.
 
 use std::process::ExitCode;
 
 use independent::compare::{compare, compare_headers, compare_placements, Tally};
+use independent::compare_salvages::compare_salvages;
 use independent::compare_words::compare_words;
 use independent::document;
 use independent::library::Library;
 use independent::real::Real;
 use independent::wrong::{Wrong, FAULTS};
+use independent::wrong_salvage::SALVAGE_FAULTS;
 
 fn usage() -> ExitCode {
-    eprintln!("usage: compare SEED COUNT [FAULT from 1 to {}]", FAULTS.len());
+    eprintln!("usage: compare SEED COUNT [FAULT from 1 to {}]", FAULTS.len() + SALVAGE_FAULTS.len());
     ExitCode::from(2)
+}
+
+/// The fault of a number from 1; those of a salvage are the last ones.
+fn fault_of(number: u64) -> Option<&'static str> {
+    FAULTS.iter().chain(&SALVAGE_FAULTS).nth(usize::try_from(number).ok()?.checked_sub(1)?).copied()
 }
 
 fn main() -> ExitCode {
     let numbers: Option<Vec<u64>> = std::env::args().skip(1).map(|text| text.parse().ok()).collect();
     let (seed, count, library): (u64, u64, Box<dyn Library>) = match numbers.as_deref() {
         Some([seed, count]) => (*seed, *count, Box::new(Real)),
-        Some([seed, count, fault]) if (1..=FAULTS.len() as u64).contains(fault) => {
-            let fault = FAULTS[*fault as usize - 1];
+        Some([seed, count, fault]) => {
+            let Some(fault) = fault_of(*fault) else { return usage() };
             println!("library on trial: {fault}");
             (*seed, *count, Box::new(Wrong(fault)))
         }
@@ -34,14 +41,16 @@ fn main() -> ExitCode {
     println!("printed answers: {} compared, {} wrong", found.run, found.wrong.len());
 
     let mut tally = Tally::default();
-    let outcome = compare(&*library, seed, 0, count, &mut tally);
+    let outcome = compare(&*library, seed, 0, count, &mut tally)
+        .and_then(|()| compare_salvages(&*library, seed, count / 20, &mut tally));
     print!("{}", tally.lines());
-    let outcome = outcome.and_then(|()| {
+    let outcome = outcome.and_then(|salvages| {
         let words = compare_words(&*library, seed, count)?;
         let placements = compare_placements(&*library)?;
         let headers = compare_headers(&*library)?;
         Ok(format!(
-            "{count} cases of seed {seed}, {words} fields and words, {placements} placements and {headers} headers agree"
+            "{count} cases of seed {seed}, {salvages} salvages, {words} fields and words, {placements} placements and \
+             {headers} headers agree"
         ))
     });
     match outcome {

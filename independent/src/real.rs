@@ -3,7 +3,7 @@
 use rahmisve_sys::*;
 
 use crate::inputs::LARGEST_K;
-use crate::library::{list_by_lines, FieldAnswer, Found, Library, LineAnswer, ReadAnswer};
+use crate::library::{list_by_lines, FieldAnswer, Found, Library, LineAnswer, ReadAnswer, SalvageAnswer};
 use crate::tags::Tag;
 use crate::watch::{Verdict, Watch};
 
@@ -196,6 +196,25 @@ impl Library for Real {
         let mut bytes = 0x5A5A;
         let number = unsafe { rahmisve_last_text(cut, fields, room.as_mut_ptr(), room.len(), &mut bytes) };
         (number, bytes)
+    }
+    fn salvage(&self, input: &[u8], recording: &mut [u8], report: &mut [usize], scratch: &mut [u16]) -> SalvageAnswer {
+        let (mut bytes, mut entries, mut blocks) = (0x5A5A, 0x5A5A, 0x5A5A);
+        let number = unsafe {
+            rahmisve_salvage(
+                input.as_ptr(),
+                input.len(),
+                recording.as_mut_ptr(),
+                recording.len(),
+                report.as_mut_ptr(),
+                report.len(),
+                scratch.as_mut_ptr(),
+                scratch.len(),
+                &mut bytes,
+                &mut entries,
+                &mut blocks,
+            )
+        };
+        SalvageAnswer { number, bytes, entries, blocks }
     }
     fn list(&self, recording: &[u8]) -> String {
         list_by_lines(self, recording)

@@ -3,10 +3,10 @@
 
 use crate::check::check_bytes;
 use crate::header::{meaning, passing, sealed, HEADER};
-use crate::library::{FieldAnswer, Found, Library, LineAnswer, Model, ReadAnswer};
+use crate::library::{FieldAnswer, Found, Library, LineAnswer, Model, ReadAnswer, SalvageAnswer};
 use crate::tags::{self, Tag};
 use crate::watch::{Verdict, Watch};
-use crate::{rows, words};
+use crate::{rows, words, wrong_salvage};
 
 pub const FAULTS: [&str; 80] = [
     "takes copy 1 unread",
@@ -584,6 +584,13 @@ impl Library for Wrong {
             room.copy_from_slice(&whole[..room.len()]);
         }
         (number, bytes)
+    }
+
+    fn salvage(&self, input: &[u8], recording: &mut [u8], report: &mut [usize], scratch: &mut [u16]) -> SalvageAnswer {
+        if !wrong_salvage::SALVAGE_FAULTS.contains(&self.0) {
+            return Model.salvage(input, recording, report, scratch);
+        }
+        wrong_salvage::salvage(self.0, input, recording, report, scratch)
     }
 
     fn list(&self, recording: &[u8]) -> String {

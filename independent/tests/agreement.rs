@@ -5,16 +5,20 @@ use std::collections::BTreeSet;
 
 use independent::check::check_word;
 use independent::compare::{case_of, compare, compare_placements, difference, run, Answer, Case, Tally};
+use independent::compare_salvages::{compare_named, compare_salvages, compare_tapes, rooms_around, salvage_of};
 use independent::compare_words::{
     compare_counts, compare_drawn, compare_large_words, compare_long_fields, compare_words,
 };
 use independent::document::{self, Findings};
-use independent::header::{passing, COUNT_ADDS};
+use independent::header::{meaning, passing, COUNT_ADDS};
 use independent::inputs::{self, Dice};
 use independent::library::{list_by_lines, Library, Model};
 use independent::rows;
+use independent::salvage::{self, copy, made, pieces, Piece, LEAST_BYTES, MOST_INPUT};
+use independent::tapes;
 use independent::watch::Verdict;
 use independent::wrong::{Wrong, FAULTS};
+use independent::wrong_salvage::SALVAGE_FAULTS;
 
 fn none_wrong(part: fn(&dyn Library, &mut Findings)) {
     let mut found = Findings { run: 0, wrong: Vec::new() };
@@ -67,7 +71,24 @@ fn without_a_fault_none_is_found() {
     compare(&library, 1, 0, 10_000, &mut Tally::default()).unwrap();
     compare_placements(&library).unwrap();
     compare_words(&library, 1, 5_000).unwrap();
+    compare_salvages(&library, 1, 200, &mut Tally::default()).unwrap();
     assert!(document::all(&library).wrong.is_empty());
+}
+
+/// The tapes with names and the drawn ones each find it.
+#[test]
+fn every_wrong_salvage_is_found_by_each_way_to_it() {
+    let mut missed = Vec::new();
+    for fault in SALVAGE_FAULTS {
+        let library = Wrong(fault);
+        if compare_named(&library, &mut Tally::default()).is_ok() {
+            missed.push((fault, "named"));
+        }
+        if compare_tapes(&library, 1, 1_500, &mut Tally::default()).is_ok() {
+            missed.push((fault, "drawn"));
+        }
+    }
+    assert!(missed.is_empty(), "not found: {missed:?}");
 }
 
 /// Whether the first 30,000 cases have one of this kind that gives the fault away.
@@ -351,5 +372,183 @@ fn bytes_and_their_check_leave_one_remainder() {
         let mut bytes = dice.bytes(length);
         bytes.extend(check_word(&bytes).to_be_bytes());
         assert_eq!(check_word(&bytes), !0x1D0F);
+    }
+}
+
+// ---- salvage ----
+
+#[test]
+fn every_answer_of_a_salvage_is_met() {
+    let labels = ["0", "9", "18", "span", "block -", "block 1", "block 2", "block 3"];
+    let two_changed = ["block 1,2", "block 1,3", "block 2,3"];
+    let mut tally = Tally::default();
+    compare_tapes(&Model, 7, 1_000, &mut tally).unwrap();
+    for label in labels.into_iter().chain(two_changed) {
+        assert!(tally.met("salvage", label) > 20, "{label}: {}", tally.met("salvage", label));
+    }
+}
+
+/// The drawn tapes that are salvaged in rooms as they are asked for.
+fn drawn_tapes(count: u64) -> impl Iterator<Item = Vec<u8>> {
+    (0..count).map(|number| match salvage_of(7, number) {
+        Case::Salvage { input, .. } => input,
+        _ => panic!(),
+    })
+}
+
+/// The first copy at a start that makes a block.
+fn maker(rest: &[u8]) -> Option<usize> {
+    (0..3).find(|&k| made(rest, k).is_some())
+}
+
+/// What is remarkable about a block on a tape.
+fn block_kinds(tape: &[u8], piece: &Piece) -> Vec<String> {
+    let rest = &tape[piece.start..];
+    let used = maker(rest).unwrap();
+    let passing = passing(rest);
+    let mut kinds = vec![format!("made by copy {}", used + 1)];
+    if (0..used).any(|k| passing[k]) {
+        kinds.push("a passing copy passed over".into());
+    }
+    if (0..3).any(|k| passing[k] && copy(rest, k) != copy(rest, used)) {
+        kinds.push("passing copies that differ".into());
+    }
+    if (used + 1..3).any(|k| made(rest, k).is_some_and(|other| other != piece.made)) {
+        kinds.push("two copies that make two blocks".into());
+    }
+    if (used + 1..3).any(|k| made(rest, k).is_some_and(|other| other.len() != piece.bytes)) {
+        kinds.push("two copies that make blocks of two lengths".into());
+    }
+    if (0..3).any(|k| passing[k] && asks_for(rest, k) > Some(rest.len())) {
+        kinds.push("a copy that asks for more than there is".into());
+    }
+    for apart in [30, 60] {
+        if tape.get(piece.start + apart..).is_some_and(|rest| maker(rest).is_some()) {
+            kinds.push(format!("two readings {apart} bytes apart"));
+        }
+    }
+    kinds
+}
+
+/// The bytes that a copy's header asks for.
+fn asks_for(rest: &[u8], k: usize) -> Option<usize> {
+    meaning(copy(rest, k)?[..28].try_into().unwrap()).ok().map(|meaning| meaning.block_bytes())
+}
+
+/// What is remarkable about a tape.
+fn tape_kinds(tape: &[u8]) -> Vec<String> {
+    let pieces = pieces(tape);
+    let blocks: Vec<&Piece> = pieces.iter().filter(|piece| piece.is_block()).collect();
+    let mut kinds = vec![format!("{} bytes", tape.len()), format!("{} blocks", blocks.len())];
+    let mut note = |is_so: bool, kind: &str| {
+        if is_so {
+            kinds.push(kind.into());
+        }
+    };
+    let [first, .., last] = &pieces[..] else { return kinds };
+    note(!first.is_block(), "junk before");
+    note(!last.is_block(), "junk behind");
+    note(pieces[1..pieces.len() - 1].iter().any(|piece| !piece.is_block()), "junk between");
+    note(pieces.windows(2).any(|two| two[0].is_block() && two[1].is_block()), "blocks side by side");
+    note(blocks.windows(2).any(|two| two[0].bytes > two[1].bytes), "a shorter block behind a longer one");
+    note(blocks.iter().any(|block| block.start > 65_535), "a start of more than 16 bits");
+    let lone_cut = |start: &usize| {
+        let rest = &tape[*start..];
+        rest.len() >= 90 && passing(rest) == [true; 3] && asks_for(rest, 0) > Some(rest.len())
+    };
+    note(!last.is_block() && (last.start..tape.len()).any(|start| lone_cut(&start)), "a block cut at the end");
+    let [bytes, numbers, _] = salvage::rooms(tape.len());
+    note(blocks.iter().map(|block| 3 + block.bytes).sum::<usize>() == bytes, "a recording that fills its room");
+    note(3 * pieces.len() == numbers, "a report that fills its room");
+    kinds.extend(blocks.into_iter().flat_map(|block| block_kinds(tape, block)));
+    kinds
+}
+
+#[test]
+fn every_kind_of_tape_is_drawn() {
+    let met: BTreeSet<String> = drawn_tapes(1_500).flat_map(|tape| tape_kinds(&tape)).collect();
+    let lengths = [0, 89, 90, LEAST_BYTES - 1, LEAST_BYTES, MOST_INPUT, MOST_INPUT + 1];
+    let lengths = lengths.map(|length| format!("{length} bytes"));
+    let counts = [0, 1, 2, 3, 4, 5, 10].map(|count| format!("{count} blocks"));
+    let others = [
+        "junk before",
+        "junk between",
+        "junk behind",
+        "blocks side by side",
+        "a shorter block behind a longer one",
+        "a start of more than 16 bits",
+        "a block cut at the end",
+        "a recording that fills its room",
+        "a report that fills its room",
+        "made by copy 1",
+        "made by copy 2",
+        "made by copy 3",
+        "a passing copy passed over",
+        "passing copies that differ",
+        "two copies that make two blocks",
+        "two copies that make blocks of two lengths",
+        "a copy that asks for more than there is",
+        "two readings 30 bytes apart",
+        "two readings 60 bytes apart",
+    ];
+    for kind in lengths.iter().chain(&counts).map(String::as_str).chain(others) {
+        assert!(met.contains(kind), "no tape has {kind}");
+    }
+}
+
+/// Each room one too small, with the others as they are asked for, whatever the tape.
+#[test]
+fn each_room_one_too_small_is_met() {
+    let mut met = BTreeSet::new();
+    for number in 0..1_500 {
+        let Case::Salvage { input, recording, report, scratch, .. } = salvage_of(7, number) else { panic!() };
+        let lent = [recording.len(), report.len(), scratch.len()];
+        let place = rooms_around(input.len()).iter().position(|rooms| *rooms == lent);
+        met.insert((place, pieces(&input).iter().any(Piece::is_block)));
+    }
+    for place in [0, 2, 3, 4] {
+        for has_blocks in [false, true] {
+            assert!(met.contains(&(Some(place), has_blocks)), "rooms {place}, blocks: {has_blocks}");
+        }
+    }
+}
+
+#[test]
+fn blocks_and_spans_cover_the_tape_once() {
+    for tape in drawn_tapes(400) {
+        let (mut joined, mut spans) = (0, Vec::new());
+        for piece in pieces(&tape) {
+            assert_eq!(piece.start, joined);
+            assert!(piece.bytes > 0);
+            joined += piece.bytes;
+            spans.push(!piece.is_block());
+        }
+        assert_eq!(joined, tape.len());
+        assert!(!spans.windows(2).any(|two| two == [true, true]));
+    }
+}
+
+#[test]
+fn each_block_written_is_read_and_listed() {
+    for tape in drawn_tapes(400) {
+        let (text, recording) = salvage::program(&tape);
+        let Some(recording) = recording else {
+            assert!(text == "no block\n" || tape.len() > MOST_INPUT && text == "too long\n");
+            continue;
+        };
+        let blocks = text.lines().filter(|line| line.contains(" block ")).count();
+        let listing = Model.list(&recording);
+        assert_eq!(listing.lines().filter(|line| line.ends_with(" 0")).count(), blocks);
+        assert!(listing.ends_with(&format!("\nend {blocks}\n")) && text.ends_with(&format!("\nend {blocks}\n")));
+    }
+}
+
+#[test]
+fn what_was_salvaged_is_salvaged_again() {
+    for tape in drawn_tapes(400) {
+        let again = tapes::again(&tape);
+        if let (_, Some(recording)) = salvage::program(&tape) {
+            assert_eq!(salvage::program(&again).1, Some(recording));
+        }
     }
 }
