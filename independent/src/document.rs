@@ -1,5 +1,5 @@
 //! The numbered table, the further run cases, block 2 by version, the listing's
-//! example and the errors trainees bring, with the answers that the
+//! example, the salvage's and the errors trainees bring, with the answers that the
 //! specification prints. Nothing here asks the model, so it is checked like any
 //! library.
 
@@ -7,8 +7,10 @@ use std::fmt::Debug;
 
 use crate::check::check_word;
 use crate::inputs::field;
-use crate::library::Library;
+use crate::library::{Library, SalvageAnswer};
+use crate::salvage::text;
 use crate::tags::Tag;
+use crate::tapes;
 use crate::watch::Verdict;
 
 pub struct Findings {
@@ -303,6 +305,73 @@ pub fn listing(library: &dyn Library, found: &mut Findings) {
     }
 }
 
+/// A tape salvaged in rooms of so many bytes, numbers and words; what the program would print, and the recording.
+fn salvaged(library: &dyn Library, tape: &[u8], rooms: [usize; 3]) -> (SalvageAnswer, String, Vec<u8>) {
+    let [bytes, numbers, words] = rooms;
+    let (mut recording, mut report) = (vec![0x5A; bytes], vec![0x5A; numbers]);
+    let answer = library.salvage(tape, &mut recording, &mut report, &mut vec![0x5A; words]);
+    recording.truncate(answer.bytes);
+    report.truncate(3 * answer.entries);
+    (answer, text(&report), recording)
+}
+
+const REPORT_HEAD: &str = "start bytes found changed\n";
+/// The printed report, line by line.
+pub const REPORT: [&str; 5] =
+    ["start bytes found changed", "0 137 span -", "137 2772 block -", "2909 26352 block 1,3", "end 2"];
+/// The words of the longest block, whatever the input.
+const SCRATCH: usize = FOUR_WIDEST.0 as usize;
+
+/// Rooms that are printed as numbers, and the tape of the printed report.
+pub fn salvage(library: &dyn Library, found: &mut Findings) {
+    salvage_rooms(library, found);
+    salvage_report(library, found);
+    salvage_lone_block(library, found);
+}
+
+fn salvage_rooms(library: &dyn Library, found: &mut Findings) {
+    let rows = [(0, 0, 1), (89, 89, 1), (2_771, 2_771, 1), (2_772, 2_775, 3), (65_000, 65_069, 47)];
+    for (length, bytes, entries) in rows {
+        let tape = vec![0; length];
+        let rooms = [bytes, 3 * entries, SCRATCH];
+        let number = |rooms| salvaged(library, &tape, rooms).0;
+        found.expect(&format!("no block in {length} bytes"), number(rooms), SalvageAnswer::refused(18));
+        for one in (0..3).filter(|&one| rooms[one] > 0) {
+            let mut small = rooms;
+            small[one] -= 1;
+            let what = format!("room {one} too small for {length} bytes");
+            found.expect(&what, number(small), SalvageAnswer::refused(9));
+        }
+    }
+}
+
+fn salvage_report(library: &dyn Library, found: &mut Findings) {
+    let tape = tapes::example();
+    let (answer, printed, recording) = salvaged(library, &tape, [tape.len() + 30, 63, SCRATCH]);
+    let longest = 92 + FOUR_WIDEST.1;
+    let wanted = SalvageAnswer { number: 0, bytes: 3 + 2_772 + 3 + longest, entries: 3, blocks: 2 };
+    found.expect("salvage of the printed report", answer, wanted);
+    found.expect("printed report", printed, REPORT.map(|line| format!("{line}\n")).concat());
+    // Copy 2 of the longest block was whole, and stands in all three places.
+    let second = &tape[2_909 + 30..2_909 + 60];
+    let blocks = [field(1, &tape[137..2_909]), field(1, &[&second.repeat(3), &tape[2_909 + 90..]].concat())];
+    found.expect("its recording", recording == blocks.concat(), true);
+}
+
+/// 2,772 bytes hold a block, and nothing less does.
+fn salvage_lone_block(library: &dyn Library, found: &mut Findings) {
+    let block = zeros(&header(3, 10, 2, 20), 20);
+    let rooms = [2_775, 9, SCRATCH];
+    let (answer, printed, recording) = salvaged(library, &block, rooms);
+    found.expect("a lone block", answer, SalvageAnswer { number: 0, bytes: 2_775, entries: 1, blocks: 1 });
+    found.expect("its report", printed, format!("{REPORT_HEAD}0 2772 block -\nend 1\n"));
+    found.expect("its field", recording, field(1, &block));
+    for length in [89, 90, 2_770, 2_771] {
+        let (answer, ..) = salvaged(library, &block[..length], rooms);
+        found.expect("a block cut", answer, SalvageAnswer::refused(18));
+    }
+}
+
 pub fn trainee_errors(library: &dyn Library, found: &mut Findings) {
     let lent = header(3, 10, 2, 20);
     let (_, block) = written(library, &lent, &[0x155; 20]);
@@ -369,6 +438,7 @@ pub fn all(library: &dyn Library) -> Findings {
     further_cases(library, &mut found);
     block_2(library, &mut found);
     listing(library, &mut found);
+    salvage(library, &mut found);
     trainee_errors(library, &mut found);
     found
 }

@@ -48,6 +48,11 @@ fn listing() {
 }
 
 #[test]
+fn salvage_as_printed() {
+    none_wrong(document::salvage);
+}
+
+#[test]
 fn trainee_errors() {
     none_wrong(document::trainee_errors);
 }
