@@ -3,7 +3,8 @@
  * Each has the same five functions. check: the check word of len bytes.
  * unpack, pack: words of 6, 8 or 10 bits, most significant bit first; pack
  * clears the rest of the field. read, write: the number of the specification,
- * 0 for an accepted block. A refusal changes nothing that was lent. */
+ * 0 for an accepted block. A refusal changes nothing that was lent. The first
+ * has the search for blocks among junk too: rahmisve_salvage of rahmisve.h. */
 #ifndef BASELINE_H
 #define BASELINE_H
 
@@ -24,5 +25,9 @@
 
 BASELINE(plain)
 BASELINE(good)
+
+uint8_t plain_salvage(const uint8_t *input, size_t len, uint8_t *recording, size_t recording_len, size_t *report,
+                      size_t report_len, uint16_t *scratch, size_t scratch_len, size_t *bytes, size_t *entries,
+                      size_t *blocks);
 
 #endif

@@ -1,8 +1,10 @@
-/* Plain C: a table of 256 steps for the check word, words one by one. */
+/* Plain C: a table of 256 steps for the check word, words one by one; in a search, three check words at each start. */
 #include <string.h>
 
 #include "baseline.h"
 #include "rows.h"
+
+enum { BLOCK_FIELD = 1, TAG_AND_LENGTH = 3, ENTRY = 3, SPAN = 8, LEAST_BLOCK = 2772, MOST_WORDS = 21008 };
 
 static const uint16_t steps[256] = STEPS(0x1021, 0x2042, 0x4084, 0x8108, 0x1231, 0x2462, 0x48C4, 0x9188);
 
@@ -107,5 +109,85 @@ size_t plain_write(const uint8_t *header, size_t header_len, const uint16_t *wor
     }
     plain_pack(words, count, row.size, field, row.field);
     send_check(field + row.field, plain_check(field, row.field));
+    return 0;
+}
+
+/* How long the block is that a header copy makes of the front of these bytes, with its words in the scratch words; 0
+ * where it makes none. */
+static size_t made_by(const uint8_t *copy, const uint8_t *rest, size_t len, uint16_t *scratch)
+{
+    const uint8_t *field = rest + FRONT;
+    struct row row;
+
+    if (plain_check(copy, HEADER) != sent_check(copy + HEADER))
+        return 0;
+    if (row_of(copy, &row) != 0 || len < FRONT + row.field + 2)
+        return 0;
+    if (plain_check(field, row.field) != sent_check(field + row.field) || !fill_is_zero(field, &row))
+        return 0;
+    plain_unpack(field, row.field, row.size, scratch, row.count);
+    return FRONT + row.field + 2;
+}
+
+/* That block as a field of a recording, and how long the field is; `changed` has the copies whose bytes change. */
+static size_t put_block(const uint8_t *copy, const uint8_t *rest, size_t len, uint8_t *to, size_t *changed)
+{
+    *changed = 0;
+    to[0] = BLOCK_FIELD;
+    to[1] = (uint8_t)(len >> 8);
+    to[2] = (uint8_t)len;
+    to += TAG_AND_LENGTH;
+    for (int i = 0; i < 3; i++) {
+        if (memcmp(rest + i * COPY, copy, COPY) != 0)
+            *changed |= (size_t)1 << i;
+        memcpy(to + i * COPY, copy, COPY);
+    }
+    memcpy(to + FRONT, rest + FRONT, len - FRONT);
+    return TAG_AND_LENGTH + len;
+}
+
+/* The entry of a piece that is not empty, behind so many; how many there are then. */
+static size_t put_entry(size_t *report, size_t entries, size_t start, size_t len, size_t found)
+{
+    size_t *entry = report + entries * ENTRY;
+
+    if (len == 0)
+        return entries;
+    entry[0] = start;
+    entry[1] = len;
+    entry[2] = found;
+    return entries + 1;
+}
+
+uint8_t plain_salvage(const uint8_t *input, size_t len, uint8_t *recording, size_t recording_len, size_t *report,
+                      size_t report_len, uint16_t *scratch, size_t scratch_len, size_t *bytes, size_t *entries,
+                      size_t *blocks)
+{
+    size_t most = len / LEAST_BLOCK, start = 0, behind = 0, changed;
+
+    *bytes = *entries = *blocks = 0;
+    if (recording_len < len + most * TAG_AND_LENGTH || report_len < (most * 2 + 1) * ENTRY || scratch_len < MOST_WORDS)
+        return 9;
+    while (start + FRONT <= len) {
+        const uint8_t *rest = input + start, *copy = rest;
+        size_t made = 0;
+
+        for (int i = 0; i < 3 && made == 0; i++) {
+            copy = rest + i * COPY;
+            made = made_by(copy, rest, len - start, scratch);
+        }
+        if (made == 0) {
+            start++;
+            continue;
+        }
+        *bytes += put_block(copy, rest, made, recording + *bytes, &changed);
+        *entries = put_entry(report, *entries, behind, start - behind, SPAN);
+        *entries = put_entry(report, *entries, start, made, changed);
+        *blocks += 1;
+        start = behind = start + made;
+    }
+    if (*blocks == 0)
+        return 18;
+    *entries = put_entry(report, *entries, behind, len - behind, SPAN);
     return 0;
 }

@@ -1,7 +1,8 @@
 //! The ways that are timed beside each other: plain C, good C and idiomatic Rust, each with the five functions of
-//! baseline.h, and the library in the same form.
+//! baseline.h, and the library in the same form; and the search for blocks of plain C and of the library.
 
 pub mod idiomatic;
+pub mod search;
 
 use idiomatic::c::*;
 use rahmisve_sys::*;
@@ -104,4 +105,13 @@ unsafe extern "C" fn library_write(
 ) -> usize {
     let mut bytes = 0;
     rahmisve_write(header, header_len, words, count, dest, dest_len, &mut bytes).into()
+}
+
+/// How the library is against another way, in words.
+pub fn against(own: f64, other: f64) -> String {
+    let (ratio, word) = if own <= other { (other / own, "quicker") } else { (own / other, "slower") };
+    if ratio < 1.05 {
+        return "as quick".into();
+    }
+    format!("{ratio:.1} x {word}")
 }

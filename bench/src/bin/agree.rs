@@ -1,10 +1,12 @@
-//! agree SEED COUNT: the three baselines against the model.
+//! agree SEED COUNT: the three baselines against the model, and plain C's search for blocks against the library's.
 
+use bench::search::{Rooms, LIBRARY, PLAIN};
 use bench::{Way, BASELINES};
 use independent::compare::{case_of, Case};
+use independent::header::sealed;
 use independent::inputs::{draft, Dice};
 use independent::library::{Library, Model};
-use independent::{check, rows, words};
+use independent::{block, check, document, rows, words};
 
 fn check_word(baseline: &Way, bytes: &[u8]) {
     let got = unsafe { (baseline.check)(bytes.as_ptr(), bytes.len()) };
@@ -49,6 +51,66 @@ fn packing(baseline: &Way, dice: &mut Dice) {
     assert_eq!(room, data, "{} unpack {size} {field:02X?}", baseline.name);
 }
 
+/// A block of dice. Of its copies some are those of another header, which pass, or altered; so is a byte of its field.
+fn damaged(dice: &mut Dice) -> Vec<u8> {
+    let sound = draft(dice);
+    let mut bytes = vec![0; 92 + rows::field_bits(sound.block, sound.words.len()) / 8];
+    assert_eq!(block::write(&sound.header, &sound.words, &mut bytes), (0, bytes.len()));
+    for copy in 0..3 {
+        match dice.below(8) {
+            0 => bytes[30 * copy..30 * (copy + 1)].copy_from_slice(&sealed(&draft(dice).header)),
+            1..=3 => bytes[30 * copy + dice.below(30)] ^= dice.between(1, 255) as u8,
+            _ => {}
+        }
+    }
+    if dice.one_in(8) {
+        let at = dice.between(90, bytes.len() - 1);
+        bytes[at] ^= dice.between(1, 255) as u8;
+    }
+    bytes
+}
+
+/// A longest block whose field has another one in it, where that is short enough.
+fn around(dice: &mut Dice, inner: &[u8]) -> Vec<u8> {
+    let mut field = dice.bytes(rows::field_bits(1, rows::LARGEST_C) / 8);
+    if inner.len() <= field.len() {
+        let at = dice.between(0, field.len() - inner.len());
+        field[at..at + inner.len()].copy_from_slice(inner);
+    }
+    let copies = [sealed(&document::header(1, 10, 2, rows::LARGEST_C as u16)); 3];
+    [&copies.concat()[..], &field, &check::check_bytes(&field)].concat()
+}
+
+/// Blocks with junk between them, random or copies that pass, or cut at the end; in rooms that may be one too small.
+fn salvaging(dice: &mut Dice) -> Rooms {
+    let mut input = vec![];
+    for _ in 0..dice.below(4) {
+        let junk = dice.below(400);
+        match dice.below(4) {
+            0 => input.extend(dice.bytes(junk)),
+            1 => input.extend(sealed(&draft(dice).header).into_iter().cycle().take(junk)),
+            _ => {}
+        }
+        let block = damaged(dice);
+        input.extend(if dice.one_in(8) { around(dice, &block) } else { block });
+    }
+    if dice.one_in(4) {
+        input.truncate(dice.below(input.len() + 1));
+    }
+    let mut found = Rooms::new(input.len() + dice.pick(&[0, 0, 5_000]));
+    match dice.below(16) {
+        0 => drop(found.recording.pop()),
+        1 => drop(found.report.pop()),
+        2 => drop(found.scratch.pop()),
+        _ => {}
+    }
+    let mut other = found.clone();
+    found.search(&LIBRARY, &input);
+    other.search(&PLAIN, &input);
+    assert!(found == other, "{} salvage {input:02X?}", PLAIN.name);
+    found
+}
+
 fn main() {
     let numbers: Vec<u64> = std::env::args().skip(1).filter_map(|text| text.parse().ok()).collect();
     let [seed, count] = numbers[..] else {
@@ -56,6 +118,7 @@ fn main() {
         std::process::exit(2);
     };
     let mut runs = [0; 5];
+    let mut searches = [0; 3];
     for number in 0..count {
         let case = case_of(seed, number);
         let mut dice = Dice::for_case(!seed, number);
@@ -83,14 +146,22 @@ fn main() {
                 runs[3] += 1;
             }
         }
+        if number % 16 == 0 {
+            let found = salvaging(&mut dice);
+            searches[0] += 1;
+            searches[1] += (found.answer == 0) as u64;
+            searches[2] += found.blocks as u64;
+        }
         if !matches!(case, Case::CheckWord { .. } | Case::Read { .. } | Case::Write { .. }) {
             runs[4] += BASELINES.len() as u64;
         }
     }
     let [checks, reads, accepted, writes, packs] = runs;
+    let [searches, salvaged, blocks] = searches;
     println!(
         "{} baselines agree with the model: {checks} check words, {reads} reads ({accepted} accepted), \
-         {writes} writes, {packs} packings",
+         {writes} writes, {packs} packings; and plain C's search with the library's: {searches} inputs ({salvaged} \
+         accepted, {blocks} blocks)",
         BASELINES.len()
     );
 }

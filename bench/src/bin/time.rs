@@ -9,7 +9,7 @@
 use std::hint::black_box;
 use std::time::{Duration, Instant};
 
-use bench::{idiomatic, Way, BASELINES, LIBRARY};
+use bench::{against, idiomatic, Way, BASELINES, LIBRARY};
 
 /// A block, what it is made of, and room for what is made of it.
 struct Trial {
@@ -133,15 +133,6 @@ fn timed<const N: usize>(trial: &mut Trial, ways: &[Way; 4], what: &[&str; N]) -
         }
     }
     best
-}
-
-/// How the library is against another way, in words.
-fn against(own: f64, other: f64) -> String {
-    let (ratio, word) = if own <= other { (other / own, "quicker") } else { (own / other, "slower") };
-    if ratio < 1.05 {
-        return "as quick".into();
-    }
-    format!("{ratio:.1} x {word}")
 }
 
 /// A line of the table: the time of each way, the library's first.
