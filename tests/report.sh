@@ -26,11 +26,17 @@ block() {
         on { print }
         found && $0 == fence { on = (++seen == n) }' "$page"
 }
-# recordings DIR SEED COUNT: has the independent program make recordings there, each as NAME.rec beside its listing, NAME.txt
-recordings() {
-    mkdir -p "$1" && cargo build --quiet --release --offline -p independent --bin recordings &&
-        "${CARGO_TARGET_DIR:-target/cargo}/release/recordings" "$@"
+# independent PROGRAM DIR SEED COUNT: has a program that shares no code with the library make files there
+independent() {
+    local program=$1
+    shift
+    mkdir -p "$1" && cargo build --quiet --release --offline -p independent --bin "$program" &&
+        "${CARGO_TARGET_DIR:-target/cargo}/release/$program" "$@"
 }
+# recordings DIR SEED COUNT: recordings for `list`, each as NAME.rec beside its listing, NAME.txt
+recordings() { independent recordings "$@"; }
+# salvages DIR SEED COUNT: inputs for `salvage`, each as NAME.in beside what is printed, NAME.txt, and the recording, NAME.rec, where one is due
+salvages() { independent salvages "$@"; }
 done_testing() { echo "1..$tried" && exit $bad; }
 # a folder that is gone afterwards
 dir=$(mktemp -d)
