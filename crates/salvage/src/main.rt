@@ -201,10 +201,17 @@ fn salvage_bytes(input: &[u8], out: &[u8])
     deliver(made, &recording, &report, out);
 }
 
-// Whether reading stopped because there is no more: where it failed, the next read fails too, or finds more.
-fn is_at_end(fd: i32) -> bool {
+// Whether reading stopped because there is no more: where it failed, the next read fails too, or finds more. What it is, it says.
+fn is_at_end(fd: i32, name: &[u8]) -> bool {
     let mut one = [0u8; 1];
-    libc::read(fd, &mut one) == 0
+    let more = libc::read(fd, &mut one);
+    if more < 0 {
+        os::fail(name);
+    }
+    if 0 < more {
+        io::write_all(STDERR_FILENO, b"the input grew while it was read\n");
+    }
+    more == 0
 }
 
 fn salvage_from(fd: i32, name: &[u8], out: &[u8])
@@ -216,8 +223,7 @@ fn salvage_from(fd: i32, name: &[u8], out: &[u8])
         write_line(b"too long\n");
         return;
     }
-    if !is_at_end(fd) {
-        os::fail(name);
+    if !is_at_end(fd, name) {
         return;
     }
     salvage_bytes(&input[..got], out);
