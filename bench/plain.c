@@ -4,7 +4,7 @@
 #include "baseline.h"
 #include "rows.h"
 
-enum { BLOCK_FIELD = 1, TAG_AND_LENGTH = 3, ENTRY = 3, SPAN = 8, LEAST_BLOCK = 2772, MOST_WORDS = 21008 };
+enum { BLOCK_FIELD = 1, TAG_AND_LENGTH = 3, ENTRY = 3, SPAN = 8, LEAST_BLOCK = 2772, MOST_WORDS = 4 * (16 + LARGEST_N) };
 
 static const uint16_t steps[256] = STEPS(0x1021, 0x2042, 0x4084, 0x8108, 0x1231, 0x2462, 0x48C4, 0x9188);
 

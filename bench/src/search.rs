@@ -1,5 +1,6 @@
 //! The search for blocks among junk: the library's and plain C's, called alike.
 
+use independent::salvage::rooms;
 use rahmisve_sys::rahmisve_salvage;
 
 /// What `rahmisve_salvage` takes and answers.
@@ -41,9 +42,6 @@ pub struct Search {
 pub const LIBRARY: Search = Search { name: "library", salvage: rahmisve_salvage };
 pub const PLAIN: Search = Search { name: "plain C", salvage: plain_salvage };
 
-pub const LEAST_BLOCK: usize = 2_772;
-pub const MOST_WORDS: usize = 21_008;
-
 /// What is lent for a search, and what it left there and answered. Two that found the same are equal.
 #[derive(Clone, Debug, PartialEq, Eq)]
 pub struct Rooms {
@@ -59,11 +57,11 @@ pub struct Rooms {
 impl Rooms {
     /// As much as an input of so many bytes asks for, full of a pattern.
     pub fn new(length: usize) -> Rooms {
-        let most = length / LEAST_BLOCK;
+        let [bytes, numbers, words] = rooms(length);
         Rooms {
-            recording: vec![0xAA; length + most * 3],
-            report: vec![0xAAAA; (most * 2 + 1) * 3],
-            scratch: vec![0xAAAA; MOST_WORDS],
+            recording: vec![0xAA; bytes],
+            report: vec![0xAAAA; numbers],
+            scratch: vec![0xAAAA; words],
             answer: 0xAA,
             bytes: 0xAAAA,
             entries: 0xAAAA,

@@ -6,13 +6,11 @@ use std::hint::black_box;
 use std::time::{Duration, Instant};
 
 use bench::against;
-use bench::search::{Rooms, LIBRARY, MOST_WORDS, PLAIN};
+use bench::search::{Rooms, LIBRARY, PLAIN};
 use independent::inputs::Dice;
-use independent::rows::field_bits;
+use independent::rows::{field_bits, LARGEST_C};
+use independent::salvage::MOST_INPUT;
 use independent::{block, document, header};
-
-/// The most bytes that the program `salvage` takes.
-const MOST_BYTES: usize = 65_000;
 
 /// The words of a block 1 that fill the shortest field.
 const SHORTEST: usize = 2_144;
@@ -22,7 +20,7 @@ fn blocks(dice: &mut Dice, c: usize) -> Vec<u8> {
     let said = document::header(1, 10, 2, c as u16);
     let mut one = vec![0; 92 + field_bits(1, c) / 8];
     let mut all = vec![];
-    while all.len() + one.len() <= MOST_BYTES {
+    while all.len() + one.len() <= MOST_INPUT {
         let words: Vec<u16> = (0..c).map(|_| dice.below(1_024) as u16).collect();
         assert_eq!(block::write(&said, &words, &mut one), (0, one.len()));
         all.extend(&one);
@@ -32,14 +30,14 @@ fn blocks(dice: &mut Dice, c: usize) -> Vec<u8> {
 
 /// Every thirty bytes a copy that passes and asks for the longest field, whose check fails.
 fn failing_fields() -> Vec<u8> {
-    let copy = header::sealed(&document::header(1, 10, 2, MOST_WORDS as u16));
-    copy.into_iter().cycle().take(MOST_BYTES).collect()
+    let copy = header::sealed(&document::header(1, 10, 2, LARGEST_C as u16));
+    copy.into_iter().cycle().take(MOST_INPUT).collect()
 }
 
 /// From six bytes in twelve a header that says what one may, and whose check fails. No bytes have more of them: where
 /// one has its size another cannot have its version, six bytes in front of it.
 fn failing_copies() -> Vec<u8> {
-    [3, 10, 10, 10, 10, 10, 10, 2, 2, 2, 2, 2].into_iter().cycle().take(MOST_BYTES).collect()
+    [3, 10, 10, 10, 10, 10, 10, 2, 2, 2, 2, 2].into_iter().cycle().take(MOST_INPUT).collect()
 }
 
 /// The best time of the library's search and of plain C's, which take turns so that they meet the same machine.
@@ -77,11 +75,11 @@ fn main() {
     );
     println!("{:<16}{:>8}{:>8}{:>12}{:>12}{:>28}", "", "bytes", "blocks", LIBRARY.name, "ns a byte", PLAIN.name);
     let mut dice = Dice::new(1);
-    for length in [MOST_BYTES / 4, MOST_BYTES / 2, MOST_BYTES] {
+    for length in [MOST_INPUT / 4, MOST_INPUT / 2, MOST_INPUT] {
         line("random bytes", &dice.bytes(length));
     }
     line("shortest blocks", &blocks(&mut dice, SHORTEST));
-    line("longest blocks", &blocks(&mut dice, MOST_WORDS));
+    line("longest blocks", &blocks(&mut dice, LARGEST_C));
     line("failing fields", &failing_fields());
     line("failing copies", &failing_copies());
 }

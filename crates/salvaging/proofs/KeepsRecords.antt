@@ -124,10 +124,11 @@ module _ (k : ℕ) (rest : List ℕ) where
   changed-small = omega (arith, differs-small 0, differs-small 1, differs-small 2)
 
 pub changes : Changes
-changes k rest = (
-  changed-small k rest,
-  λ j h. ((λ e. differs-is k rest j .0 (sym (mark-is k rest j h) ∙ e)), λ f. mark-is k rest j h ∙ differs-is k rest j .1 f),
-)
+changes k rest =
+    let small = changed-small k rest in
+    let each-is : (j : ℕ) → j < 3 → (changedBy k rest / 2 ^ j % 2 ≡ 1) ↔ (copyAt j rest ≡ copyAt k rest → ⊥) =
+    λ j h. ((λ e. differs-is k rest j .0 (sym (mark-is k rest j h) ∙ e)), λ f. mark-is k rest j h ∙ differs-is k rest j .1 f) in
+    (small, each-is)
 
 -- ---- refusals
 
