@@ -1,4 +1,5 @@
--- Salvage of recordings without boundaries: what a search is, said without loops, and what comes of it. Assumes nothing.
+-- Salvage of recordings without boundaries: what a search is, said without loops, and what comes of it. What the report prints is promised by
+-- the crate `report` in the scope's own text, and cited. Assumes nothing.
 use Prim.Native.Nat.{ℕ, _+_, _-_, _*_, _/_, _%_, _≤_, _<_}
 use mathlib.Core.Path.{_≡_}
 use mathlib.Core.Logic.{_⊎_, _↔_}
@@ -11,6 +12,7 @@ use Rattle.block.specs.Answers.{answerOf, roomAfter}
 use Rattle.recording.specs.Fields.{Field, recordingOf}
 use Rattle.recording.specs.Lines.{lineOf}
 use Rattle.salvaging.specs.Answers.{salvagedOf, recordingAfter, reportAfter, scratchAfter}
+use Rattle.report.specs.Promises.{PrintsReport, PrintsChanged}
 use Rattle.scope.specs.Notions.{Reason, _if_, FirstOf}
 use Rattle.scope.specs.Blocks.{Agrees}
 use Rattle.scope.specs.Demands.{Accepted, Meets, Equal, Received, Unchanged}
@@ -179,3 +181,5 @@ pub record Salvage : Type 0 where
   -- no lower start's block overlaps it.
   pub restores : (before one other behind : List ℕ) (fs : List Found) → Below 256 (before ++ (other ++ behind)) → Received (Altered 16) one other → Accepted one 21008
       → drop 90 other ≡ drop 90 one → Search (before ++ (other ++ behind)) 0 fs → NoneOver fs (length before) → (k : ℕ) × Among (block (length before) k one) fs
+  pub example : PrintsReport
+  pub changed : PrintsChanged
