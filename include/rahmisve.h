@@ -270,8 +270,8 @@ uint8_t rahmisve_last_text(uint32_t cut, uint64_t fields, uint8_t *room, size_t 
 #define RAHMISVE_CHANGED_THIRD 4
 #define RAHMISVE_SPAN 8 /* no block: a span that was skipped */
 
-/* The rooms for an input of n bytes: the bytes of the recording, and the entries of the report. The scratch words are RAHMISVE_MOST_WORDS,
- * whatever the input. */
+/* The rooms for an input of n bytes, which is evaluated twice: the bytes of the recording, and the entries of the report. The scratch words
+ * are RAHMISVE_MOST_WORDS, whatever the input. */
 #define RAHMISVE_SALVAGE_BYTES(n) ((n) + (n) / RAHMISVE_LEAST_BYTES * RAHMISVE_FRONT_BYTES)
 #define RAHMISVE_SALVAGE_ENTRIES(n) ((n) / RAHMISVE_LEAST_BYTES * 2 + 1)
 
@@ -279,10 +279,10 @@ uint8_t rahmisve_last_text(uint32_t cut, uint64_t fields, uint8_t *room, size_t 
  * search takes the lowest start from which a header copy that passes, put in all three places, makes an acceptable block; of the three
  * copies the first that does, whatever the others hold. It goes on behind that block's end.
  * Accepted, the blocks so made stand at the front of `recording`, each with three equal copies as a field with RAHMISVE_BLOCK_FIELD as its
- * tag; `bytes` is how long that recording is. At the front of `report` each block has an entry, and so has each span between them, in the
- * order of the input, which they cover once; there are `entries` of them, and `blocks` of these are blocks. Nothing behind either has
- * changed. The scratch words are read to: each block's words in turn, at their front and over those of the one before, so that the last
- * block's stand at the front.
+ * tag; `bytes` is how long that recording is. At the front of `report` each block has an entry, and so has each span that was skipped, in
+ * the order of the input, which they cover once; there are `entries` of them, and `blocks` of these are blocks. Nothing behind either has
+ * changed. Each block is read to the front of the scratch words in turn, over the one before: the last block's words stand there, and
+ * behind them what longer ones left.
  * As everywhere, a length counts elements, so of `size_t report[ENTRIES][RAHMISVE_ENTRY_NUMBERS]`
  *
  *     report[0], ENTRIES * RAHMISVE_ENTRY_NUMBERS

@@ -68,6 +68,12 @@ fn asking_more(mut block: Vec<u8>, k: usize) -> Vec<u8> {
     block
 }
 
+/// The block with a first copy that asks for a longer one, which the bytes behind it would hold.
+fn asking_for_another(mut block: Vec<u8>) -> Vec<u8> {
+    put_copy(&mut block, 0, &sealed(&longer_without_fill()));
+    block
+}
+
 /// Bytes that hold no block, the same each time.
 fn dull(length: usize) -> Vec<u8> {
     (0..length).map(|k| ((11 + 37 * k) % 251) as u8).collect()
@@ -187,6 +193,7 @@ pub fn named() -> Vec<(String, Vec<u8>)> {
         ("higher-30".into(), two_readings(30, false)),
         ("shorter-first".into(), first_and_others(without_fill(), longer_without_fill())),
         ("longer-first".into(), first_and_others(longer_without_fill(), without_fill())),
+        ("other-length-1".into(), around(&asking_for_another(narrow(2)))),
         ("cut".into(), [around(&narrow(1)), narrow(2)[..LEAST_BYTES - 1].to_vec()].concat()),
         ("cut-check".into(), [narrow(1), narrow(2)[..LEAST_BYTES - 2].to_vec()].concat()),
         ("cut-copies".into(), [narrow(1), narrow(2)[..89].to_vec()].concat()),

@@ -167,8 +167,8 @@ impl fmt::Debug for Salvaged<'_> {
 }
 
 /// Finds the blocks in an input that does not say where they are, with junk before, between and behind them. The search
-/// takes the lowest start from which a header copy that passes, put in all three places, makes an acceptable block, and
-/// goes on behind that block's end.
+/// takes the lowest start from which a header copy that passes, put in all three places, makes an acceptable block, of
+/// the three copies the first that does, and goes on behind that block's end.
 ///
 /// The recording and the report are put at the front of their rooms, which [`salvage_bytes`] and [`salvage_entries`]
 /// give for the input's length. The scratch words are [`MOST_WORDS`](crate::MOST_WORDS); each block is read to their

@@ -4,12 +4,14 @@ ghost use Rattle.copies.specs.Copies.{commonOf};
 
 mod compare;
 
-// A header as it is given back and lent, without its check word; a copy of it with one; and the three copies in front of a field.
+// A header as it is given back and lent, without its check word; a copy of it with one; the copies in front of a field, and how many.
 pub const HEADER_BYTES: usize = 28;
 
 pub const COPY_BYTES: usize = 30;
 
 pub const COPIES_BYTES: usize = 90;
+
+pub const COPIES: usize = 3;
 
 // What the three copies have in common, with number 0: the header's 28 bytes, and which copies passed; or a refusal's number and zeros.
 pub struct Common {

@@ -35,5 +35,6 @@ pub const OTHER_FIELD: u8 = 15;
 pub const LONG_LIMIT: u8 = 16;
 
 pub const OFF_BOUNDARY: u8 = 17;
+
 // No start of an input has an acceptable block.
 pub const NO_BLOCK: u8 = 18;

@@ -12,11 +12,10 @@ use libc::STDOUT_FILENO;
 use listing::LINE_BYTES;
 use recording::Found;
 use recording::Line;
+use row::MOST_WORDS;
 
-// The longest field with its front, and the most words of a block.
+// The longest field with its front.
 const FIELD_BYTES: usize = 65538;
-
-const MOST_WORDS: usize = 21008;
 
 // The first `end` bytes of the room that a line was put into, in one write; whether it was done, and where not, standard error says why. A
 // pipe takes so few bytes whole or not at all, so that the lines of several programs never mix in one.

@@ -5,14 +5,11 @@ ghost use Prim.Native.Nat.{_<_};
 ghost use lib.ListN.{length};
 ghost use Rattle.made.specs.Made.{begunBy, bytesBy, scratchBy};
 use check_word::CHECK_BYTES;
+use copies::COPIES;
 use copies::COPIES_BYTES;
 use copies::COPY_BYTES;
 use copies::HEADER_BYTES;
-
-// How many copies there are, and the words of the largest block.
-pub const COPIES: usize = 3;
-
-pub const MOST_WORDS: usize = 21008;
+use row::MOST_WORDS;
 
 // How long the block is that a copy begins, 0 where it begins none: what its header says is cheaper to test than its check word.
 fn begun_by(rest: &[u8], copy: usize) -> usize

@@ -1,16 +1,25 @@
 -- A report prints what the scope prints: the texts are computed.
 -- Assumes nothing.
-use mathlib.Core.Path.{refl}
+use mathlib.Core.Path.{refl, ap}
+use mathlib.Core.Bool.{Bool}
 use Prim.Native.Nat.{_+_, _*_}
 use native.Mathlib.Omega.{arith}
-use Rattle.text.specs.Texts.{digits, decimal}
+use borrow.Author.Tests.{ne-eqb}
+use Rattle.ground.specs.Choice.{pick}
+use Rattle.text.specs.Texts.{bytesOf, digits, decimal}
 use Rattle.report.specs.Texts.{changedText, entryText, lastText}
-use Rattle.report.specs.Promises.{PrintsReport, PrintsChanged}
+use Rattle.report.specs.Promises.{PrintsReport, PrintsKinds, PrintsChanged}
 use Rattle.report.proofs.LawsChanged.{changed-0, changed-1, changed-2, changed-3, changed-4, changed-5, changed-6, changed-7}
 
 pub prints-report : PrintsReport
 unfolding entryText changedText lastText decimal digits
 prints-report = refl
+
+pub prints-kinds : PrintsKinds
+prints-kinds = record {
+  block = λ n l. ap (λ (t : Bool). pick t (bytesOf "span") (bytesOf "block")) (ne-eqb n 8 (λ e. omega arith));
+  span = refl;
+}
 
 pub prints-changed : PrintsChanged
 prints-changed = record {

@@ -27,6 +27,9 @@ const NARROWEST: u16 = 1;
 
 const WIDEST: u16 = 5236;
 
+// The words of the longest block, of four records of the widest scan: so many hold those of any.
+pub const MOST_WORDS: usize = 21008;
+
 // The largest number that an `Infrared` holds.
 const MOST_PIXELS: u32 = 65535;
 

@@ -10,8 +10,8 @@ ghost use Rattle.salvaging.specs.Answers.{bytesFor, numbersFor};
 ghost use Rattle.text.specs.Texts.{bytesOf};
 use libc::STDERR_FILENO;
 use libc::STDOUT_FILENO;
-use made::MOST_WORDS;
 use report::LINE_BYTES;
+use row::MOST_WORDS;
 use salvaging::ENTRY_NUMBERS;
 use salvaging::Salvaged;
 
@@ -156,15 +156,15 @@ fn save(recording: &[u8], out: &[u8]) -> bool
 }
 
 // The recording, and then the report: nothing is printed of what was not written.
-fn deliver(made: Salvaged, recording: &[u8], report: &[usize], out: &[u8])
-    requires { ⌜ made .number ≡ 0 ⌝ }
-    requires { ⌜ made .bytes ≤ length (now recording) ⌝ }
-    requires { ⌜ made .entries * 3 ≤ length (now report) ⌝ }
+fn deliver(salvaged: Salvaged, recording: &[u8], report: &[usize], out: &[u8])
+    requires { ⌜ salvaged .number ≡ 0 ⌝ }
+    requires { ⌜ salvaged .bytes ≤ length (now recording) ⌝ }
+    requires { ⌜ salvaged .entries * 3 ≤ length (now report) ⌝ }
     requires { ⌜ length (now out) ≤ 4096 ⌝ }
 {
-    let bytes = made.bytes;
+    let bytes = salvaged.bytes;
     if save(&recording[..bytes], out) {
-        write_report(report, made.entries, made.blocks);
+        write_report(report, salvaged.entries, salvaged.blocks);
     }
 }
 
@@ -193,15 +193,16 @@ fn salvage_bytes(input: &[u8], out: &[u8])
     let mut recording = [0u8; RECORDING_BYTES];
     let mut report = [0usize; REPORT_NUMBERS];
     let mut scratch = [0u16; MOST_WORDS];
-    let made = salvage_in(input, &mut recording, &mut report, &mut scratch);
-    if made.number == ground::NO_BLOCK {
+    let salvaged = salvage_in(input, &mut recording, &mut report, &mut scratch);
+    if salvaged.number == ground::NO_BLOCK {
         write_line(b"no block\n");
         return;
     }
-    deliver(made, &recording, &report, out);
+    deliver(salvaged, &recording, &report, out);
 }
 
-// Whether reading stopped because there is no more: where it failed, the next read fails too, or finds more. What it is, it says.
+// Whether reading stopped because there is no more. A failure looks the same from outside: one read more tells, and standard error
+// says what it is.
 fn is_at_end(fd: i32, name: &[u8]) -> bool {
     let mut one = [0u8; 1];
     let more = libc::read(fd, &mut one);

@@ -4,7 +4,7 @@ ghost use mathlib.Core.Path.{_≡_};
 ghost use Prim.Native.Nat.{_<_};
 ghost use lib.ListN.{length};
 ghost use Rattle.salvaging.specs.Answers.{smallRooms, refusedSalvaged, salvagedOf, recordingAfter, reportAfter, scratchAfter};
-use made::MOST_WORDS;
+use row::MOST_WORDS;
 
 mod notes;
 mod search;

@@ -4,7 +4,7 @@ ghost use Prim.Native.Nat.{_≤_};
 ghost use lib.ListN.{length};
 ghost use Rattle.row.specs.Promises.{mostWords};
 ghost use Rattle.salvaging.specs.Pieces.{Found, scratchFound};
-use made::COPIES;
+use copies::COPIES;
 
 // A start, the copy that makes its block, from 0, and the block's bytes; where there is none, the input's end and 0 bytes.
 pub(crate) struct Hit {

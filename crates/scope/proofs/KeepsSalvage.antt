@@ -26,7 +26,7 @@ use Rattle.salvaging.specs.Promises.{FirstCopy, Right, bytesOf, bodies, TooSmal
 use Rattle.salvaging.proofs.KeepsSearch.{searched, covers-once, room-suffices}
 use Rattle.salvaging.proofs.KeepsRecords.{kept, records, changes, refuses-exactly, done-answer, done-recording, done-report, done-words}
 use Rattle.salvaging.proofs.KeepsRuins.{restores, again-same}
-use Rattle.report.proofs.KeepsReport.{prints-report, prints-changed}
+use Rattle.report.proofs.KeepsReport.{prints-report, prints-kinds, prints-changed}
 use Rattle.scope.specs.Notions.{FirstOf}
 use Rattle.scope.specs.Demands.{Accepted, Received}
 use Rattle.scope.specs.Salvage.{copyFrom, Makes, Found, block, span, Search, recorded, blocksIn, Changed, Report, end, of-block, of-span, readAll, salvageReasons, Gives, lyingOn, Among, NoneOver, asFields, backToBack, Each, Stands, OfFinds, Salvage}
@@ -276,5 +276,6 @@ salvage =
           let x = ruins before one other behind b r a d (subst (λ (x : List Found). NoneOver x (length before)) same over) in
           (x .0, subst (Among (block (length before) (x .0) one)) (sym same) (x .1));
       example = prints-report;
+      kinds = prints-kinds;
       changed = prints-changed;
     }

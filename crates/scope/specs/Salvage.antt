@@ -12,7 +12,7 @@ use Rattle.block.specs.Answers.{answerOf, roomAfter}
 use Rattle.recording.specs.Fields.{Field, recordingOf}
 use Rattle.recording.specs.Lines.{lineOf}
 use Rattle.salvaging.specs.Answers.{salvagedOf, recordingAfter, reportAfter, scratchAfter}
-use Rattle.report.specs.Promises.{PrintsReport, PrintsChanged}
+use Rattle.report.specs.Promises.{PrintsReport, PrintsKinds, PrintsChanged}
 use Rattle.scope.specs.Notions.{Reason, _if_, FirstOf}
 use Rattle.scope.specs.Blocks.{Agrees}
 use Rattle.scope.specs.Demands.{Accepted, Meets, Equal, Received, Unchanged}
@@ -87,8 +87,8 @@ unfoldable pub readAll : List (List ℕ) → List ℕ → List ℕ
 readAll [] scratch = scratch
 readAll (b ∷ bs) scratch = readAll bs (roomAfter b scratch)
 
--- 9 where L input bytes could need more room: L + 3q recording bytes, 2q + 1 entries of three numbers, 21,008 scratch words, q being L / 2,772
--- in whole numbers; tested first, whatever the input holds. Then 18, exactly where no start has such a block.
+-- 9, whatever the input holds, for less than L bytes of it can need: L + 3q bytes of recording, 2q + 1 entries of three numbers, 21,008 scratch
+-- words, q being L / 2,772 in whole numbers. Then 18, exactly where no start has such a block.
 abbrev pub salvageReasons : List ℕ → (recording report scratch : ℕ) → List Reason
 salvageReasons input m r w =
     9 if ((m < length input + 3 * (length input / 2772)) ⊎ ((r < 3 * (2 * (length input / 2772) + 1)) ⊎ (w < 21008)))
@@ -177,9 +177,10 @@ pub record Salvage : Type 0 where
   pub gives : (input recording report scratch : List ℕ) (fs : List Found) → Below 256 input → Search input 0 fs
       → salvagedOf input (length recording) (length report) (length scratch) .number ≡ 0 → Gives input recording report scratch fs
   pub finds : (input : List ℕ) (fs : List Found) → Below 256 input → Search input 0 fs → OfFinds input fs
-  -- Two copies in ruins: an accepted block, at most two of its copies altered, each inside one run of 16 bits, is salvaged at its place whenever
+  -- Two copies in ruins: an accepted block with three equal copies, at most two of them altered, each inside one run of 16 bits, is salvaged at its place whenever
   -- no lower start's block overlaps it.
   pub restores : (before one other behind : List ℕ) (fs : List Found) → Below 256 (before ++ (other ++ behind)) → Received (Altered 16) one other → Accepted one 21008
       → drop 90 other ≡ drop 90 one → Search (before ++ (other ++ behind)) 0 fs → NoneOver fs (length before) → (k : ℕ) × Among (block (length before) k one) fs
   pub example : PrintsReport
+  pub kinds : PrintsKinds
   pub changed : PrintsChanged

@@ -9,7 +9,7 @@ use Rattle.salvage.proofs.deliver.Tie as tie
 slice-aggregate-save : tie.Need-slice-aggregate-save
 slice-aggregate-save c =
     let start = c .before .before .before .before in
-    sym (length-take-le (start .args .made .bytes) (start .args .recording .now) (start .pre .1 .0))
+    sym (length-take-le (start .args .salvaged .bytes) (start .args .recording .now) (start .pre .1 .0))
 
 save-requires : tie.Need-save-requires
 save-requires c κs = search needs

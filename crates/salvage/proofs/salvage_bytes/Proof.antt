@@ -35,8 +35,8 @@ slice-aggregate-deliver-2 c = search needs
 deliver-requires : tie.Need-deliver-requires
 deliver-requires c κs =
     let begin = c .before .before .before .before .before .before .before .before .before .before .before .before .before in
-    let made = c .before .before .before .before .before .before .before .salvage-in .ensures in
-    (⊎-elim (λ e. e) (λ e. absurd (c .before .before .if1 .left e)) (made .0), (made .1 .0, (made .1 .1, begin .pre .1)))
+    let found = c .before .before .before .before .before .before .before .salvage-in .ensures in
+    (⊎-elim (λ e. e) (λ e. absurd (c .before .before .if1 .left e)) (found .0), (found .1 .0, (found .1 .1, begin .pre .1)))
 
 returns-2 : tie.Need-returns-2
 returns-2 c = search needs

@@ -22,8 +22,8 @@ returns : tie.Need-returns
 returns c =
     let begin = c .before .before .before .before .before .before .before .before .before .before .before .before .before .before in
     let a = begin .args in
-    let made = c .before .before .before .before .before .before .salvage .ensures in
-    in-rooms (a .input .now) (a .recording .now) (a .report .now) (length (a .scratch .now)) (begin .pre .0) (begin .pre .1 .0) (begin .pre .1 .1 .0) (begin .pre .1 .1 .1) (made .0) (made .1 .0) (made .1 .1 .0)
+    let found = c .before .before .before .before .before .before .salvage .ensures in
+    in-rooms (a .input .now) (a .recording .now) (a .report .now) (length (a .scratch .now)) (begin .pre .0) (begin .pre .1 .0) (begin .pre .1 .1 .0) (begin .pre .1 .1 .1) (found .0) (found .1 .0) (found .1 .1 .0)
 
 pub salvage-in-spec : {M : Type 1} → statement M
 salvage-in-spec =
