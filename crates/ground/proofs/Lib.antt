@@ -1,3 +1,4 @@
 pub mod LawsChoice
 pub mod LawsGrounds
 pub mod LawsTests
+pub mod LawsWalk

@@ -38,3 +38,6 @@ pub const OFF_BOUNDARY: u8 = 17;
 
 // No start of an input has an acceptable block.
 pub const NO_BLOCK: u8 = 18;
+
+// A list of leap days that is too long, does not rise strictly or has a day that no year has.
+pub const BAD_LEAP_DAYS: u8 = 19;

@@ -10,7 +10,8 @@ use lib.ListN.{length, getD}
 use borrow.Author.Tests.{eq-eqb, ne-eqb}
 use Rattle.ground.specs.Choice.{pick}
 use Rattle.tag.specs.Digits.{digitsOf, paired, decimal, valueOf, spelt}
-use Rattle.tag.specs.Tags.{tagDigits, tagOf, bytesOf, inBounds, goodTag, readTag, zeroTag}
+use Rattle.calendar.specs.Leaps.{goodList}
+use Rattle.tag.specs.Tags.{tagDigits, tagOf, bytesOf, inBounds, goodTag, readBy, readTag, zeroTag}
 use Rattle.tag.specs.declared.Tag.{Tag}
 use Rattle.tag.specs.declared.TagRead.{TagRead}
 use Rattle.tag.specs.declared.TagBytes.{TagBytes}
@@ -34,9 +35,9 @@ spread-all : (s : List ℕ) → spread (length s) (λ i. getD s i 0) ≡ s
 spread-all [] = refl
 spread-all (x ∷ s) = ap (λ (l : List ℕ). x ∷ l) (spread-all s)
 
-pub eight : (s : List ℕ) {r : TagRead} → length s ≡ 8
-    → r ≡ readTag (getD s 0 0 ∷ getD s 1 0 ∷ getD s 2 0 ∷ getD s 3 0 ∷ getD s 4 0 ∷ getD s 5 0 ∷ getD s 6 0 ∷ getD s 7 0 ∷ []) → r ≡ readTag s
-eight s e h = h ∙ ap readTag (ap (λ (n : ℕ). spread n (λ i. getD s i 0)) (sym e) ∙ spread-all s)
+pub eight : (leaps s : List ℕ) {r : TagRead} → length s ≡ 8
+    → r ≡ readBy leaps (getD s 0 0 ∷ getD s 1 0 ∷ getD s 2 0 ∷ getD s 3 0 ∷ getD s 4 0 ∷ getD s 5 0 ∷ getD s 6 0 ∷ getD s 7 0 ∷ []) → r ≡ readBy leaps s
+eight leaps s e h = h ∙ ap (readBy leaps) (ap (λ (n : ℕ). spread n (λ i. getD s i 0)) (sym e) ∙ spread-all s)
 
 -- The two digits of a byte as a number.
 abbrev two : ℕ → ℕ
@@ -114,38 +115,50 @@ spells-out t = λ i.
     hundreds m n = omega arith
 
 -- Answers, by whether the tag is good.
-pub not-eight : (s : List ℕ) → (length s ≡ 8 → ⊥) → goodTag s ≡ false
-unfolding goodTag
-not-eight s h = ap (λ (l : Bool). l && (decimal (tagDigits s) && inBounds (tagOf s))) (ne-eqb (length s) 8 h)
-
-pub good-bounds : (s : List ℕ) → goodTag s ≡ true → inBounds (tagOf s) ≡ true
-unfolding goodTag
-good-bounds s h = second (decimal (tagDigits s)) _ (second (eqb (length s) 8) _ h)
-
-pub reads : (s : List ℕ) → goodTag s ≡ true → readTag s ≡ read 0 (tagOf s)
-unfolding readTag
-reads s h = ap (λ (b : Bool). pick b (read 0 (tagOf s)) (read 12 zeroTag)) h
-
-pub refuses : (s : List ℕ) → goodTag s ≡ false → readTag s ≡ read 12 zeroTag
-unfolding readTag
-refuses s h = ap (λ (b : Bool). pick b (read 0 (tagOf s)) (read 12 zeroTag)) h
-
--- Of eight bytes, by what the tests found.
-module _ (s : List ℕ) {a b : Bool} {t : Tag} (l : length s ≡ 8) (p : a ≡ decimal (tagDigits s)) (q : t ≡ tagOf s) (e : b ≡ inBounds t) where
-  found : a && b ≡ goodTag s
+module _ (leaps s : List ℕ) where
+  pub not-eight : (length s ≡ 8 → ⊥) → goodTag leaps s ≡ false
   unfolding goodTag
-  found = λ i. sym (eq-eqb (length s) 8 l) i && (p i && (e ∙ ap inBounds q) i)
+  not-eight h = ap (λ (l : Bool). l && (decimal (tagDigits s) && inBounds leaps (tagOf s))) (ne-eqb (length s) 8 h)
 
-  pub takes-eight : a && b ≡ true → read 0 t ≡ readTag s
-  takes-eight h = ap (λ (u : Tag). read 0 u) q ∙ sym (reads s (sym found ∙ h))
+  pub good-bounds : goodTag leaps s ≡ true → inBounds leaps (tagOf s) ≡ true
+  unfolding goodTag
+  good-bounds h = second (decimal (tagDigits s)) _ (second (eqb (length s) 8) _ h)
 
-  pub refuses-eight : a && b ≡ false → read 12 zeroTag ≡ readTag s
-  refuses-eight h = sym (refuses s (sym found ∙ h))
+  by-tag : (b : Bool) → goodTag leaps s ≡ b → readBy leaps s ≡ pick b (read 0 (tagOf s)) (read 12 zeroTag)
+  unfolding readBy
+  by-tag b h = ap (λ (b : Bool). pick b (read 0 (tagOf s)) (read 12 zeroTag)) h
 
--- An answer of 0 says that the tag is good.
-pub accepted : (s : List ℕ) → eqb (readTag s .number) 0 ≡ goodTag s
-accepted s = by (goodTag s) refl
-  where
-    by : (b : Bool) → goodTag s ≡ b → eqb (readTag s .number) 0 ≡ b
-    by true h = ap (λ (r : TagRead). eqb (r .number) 0) (reads s h)
-    by false h = ap (λ (r : TagRead). eqb (r .number) 0) (refuses s h)
+  pub reads : goodTag leaps s ≡ true → readBy leaps s ≡ read 0 (tagOf s)
+  reads h = by-tag true h
+
+  pub refuses : goodTag leaps s ≡ false → readBy leaps s ≡ read 12 zeroTag
+  refuses h = by-tag false h
+
+  -- An answer of 0 says that the tag is good.
+  pub accepted-by : eqb (readBy leaps s .number) 0 ≡ goodTag leaps s
+  accepted-by = by (goodTag leaps s) refl
+    where
+      by : (b : Bool) → goodTag leaps s ≡ b → eqb (readBy leaps s .number) 0 ≡ b
+      by true h = ap (λ (r : TagRead). eqb (r .number) 0) (reads h)
+      by false h = ap (λ (r : TagRead). eqb (r .number) 0) (refuses h)
+
+  -- By a list that is one the tag decides; where it is none, nothing else does.
+  pub by-list : goodList leaps ≡ true → readTag leaps s ≡ readBy leaps s
+  unfolding readTag
+  by-list h = ap (λ (b : Bool). pick b (readBy leaps s) (read 19 zeroTag)) h
+
+  pub no-list : goodList leaps ≡ false → readTag leaps s ≡ read 19 zeroTag
+  unfolding readTag
+  no-list h = ap (λ (b : Bool). pick b (readBy leaps s) (read 19 zeroTag)) h
+
+  -- Of eight bytes, by what the tests found.
+  module _ {a b : Bool} {t : Tag} (l : length s ≡ 8) (p : a ≡ decimal (tagDigits s)) (q : t ≡ tagOf s) (e : b ≡ inBounds leaps t) where
+    found : a && b ≡ goodTag leaps s
+    unfolding goodTag
+    found = λ i. sym (eq-eqb (length s) 8 l) i && (p i && (e ∙ ap (inBounds leaps) q) i)
+
+    pub takes-eight : a && b ≡ true → read 0 t ≡ readBy leaps s
+    takes-eight h = ap (λ (u : Tag). read 0 u) q ∙ sym (reads (sym found ∙ h))
+
+    pub refuses-eight : a && b ≡ false → read 12 zeroTag ≡ readBy leaps s
+    refuses-eight h = sym (refuses (sym found ∙ h))

@@ -1,4 +1,3 @@
-pub mod Calendar
 pub mod Digits
 pub mod Tags
 pub mod Promises

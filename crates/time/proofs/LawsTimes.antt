@@ -4,7 +4,7 @@
 use mathlib.Core.Path.{_≡_, refl, ap, _∙_, sym, subst}
 use Prim.Native.Nat.{ℕ, zero, suc, _+_, _-_, _≤_, _<_, _^_}
 use native.Mathlib.Omega.{arith}
-use mathlib.Core.Bool.{Bool, true, false, cond, _&&_}
+use mathlib.Core.Bool.{Bool, true, false, cond, not, _&&_}
 use mathlib.Core.List.{List}
 use lib.Dec.{eqb, ltb, le→leb, lt→ltb}
 use lib.IntN.{ℤ, pos, negsuc, subℕ, _-ℤ_}
@@ -15,13 +15,14 @@ use mir.Facts.{toZ-pos, toZ-ofZ}
 use borrow.Author.Needs.{sfits-of}
 use borrow.Author.Tests.{lt-ltb, le-ltb, ltb-true, ltb-false}
 use Rattle.ground.specs.Choice.{pick}
-use Rattle.tag.specs.Tags.{tagOf, goodTag, readTag}
+use Rattle.calendar.specs.Leaps.{goodList}
+use Rattle.tag.specs.Tags.{tagOf, goodTag, readBy}
 use Rattle.tag.specs.declared.TagRead.{TagRead}
-use Rattle.tag.proofs.LawsTags.{accepted}
+use Rattle.tag.proofs.LawsTags.{accepted-by}
 use Rattle.time.specs.Times.{timeOf, between, elapsedOf}
 use Rattle.tag.specs.declared.Tag.{Tag}
 use Rattle.time.specs.declared.count.Elapsed.{Elapsed}
-use Rattle.ground.proofs.LawsTests.{never}
+use Rattle.ground.proofs.LawsTests.{never, both}
 
 pub minus : (a b : ℕ) → pos a -ℤ pos b ≡ subℕ a b
 minus a zero =
@@ -51,43 +52,50 @@ from-zero : (a b : ℕ) → b ≤ a → pos a -ℤ pos b ≡ pos (a - b)
 from-zero a b h = minus a b ∙ ap (λ (t : Bool). cond t (negsuc (b - suc a)) (pos (a - b))) (le-ltb a b h)
 
 -- The same of the time from one tag to a second.
-module _ (a b : Tag) where
-  pub earlier : timeOf b < timeOf a → between a b <ℤ pos 0
-  earlier h = subst (λ (z : ℤ). z <ℤ pos 0) (sym (below-zero (timeOf b) (timeOf a) h)) (ltZ-yes tt)
+module _ (leaps : List ℕ) (a b : Tag) where
+  pub earlier : timeOf leaps b < timeOf leaps a → between leaps a b <ℤ pos 0
+  earlier h = subst (λ (z : ℤ). z <ℤ pos 0) (sym (below-zero (timeOf leaps b) (timeOf leaps a) h)) (ltZ-yes tt)
 
-  pub later : timeOf a < timeOf b → pos 0 <ℤ between a b
-  later h = subst (λ (z : ℤ). pos 0 <ℤ z) (sym (from-zero (timeOf b) (timeOf a) (omega arith))) (ltZ-yes (lt→ltb 0 (timeOf b - timeOf a) (omega arith)))
+  pub later : timeOf leaps a < timeOf leaps b → pos 0 <ℤ between leaps a b
+  later h = subst (λ (z : ℤ). pos 0 <ℤ z) (sym (from-zero (timeOf leaps b) (timeOf leaps a) (omega arith))) (ltZ-yes (lt→ltb 0 (timeOf leaps b - timeOf leaps a) (omega arith)))
 
-  pub at-least-zero : timeOf a ≤ timeOf b → pos 0 ≤ℤ between a b
-  at-least-zero h = subst (λ (z : ℤ). pos 0 ≤ℤ z) (sym (from-zero (timeOf b) (timeOf a) h)) (leZ-yes (le→leb 0 (timeOf b - timeOf a) (omega arith)))
+  pub at-least-zero : timeOf leaps a ≤ timeOf leaps b → pos 0 ≤ℤ between leaps a b
+  at-least-zero h = subst (λ (z : ℤ). pos 0 ≤ℤ z) (sym (from-zero (timeOf leaps b) (timeOf leaps a) h)) (leZ-yes (le→leb 0 (timeOf leaps b - timeOf leaps a) (omega arith)))
 
-  pub at-most : (n : ℕ) → timeOf a ≤ timeOf b → timeOf b ≤ timeOf a + n → between a b ≤ℤ pos n
-  at-most n h k = subst (λ (z : ℤ). z ≤ℤ pos n) (sym (from-zero (timeOf b) (timeOf a) h)) (leZ-yes (le→leb (timeOf b - timeOf a) n (omega arith)))
+  pub at-most : (n : ℕ) → timeOf leaps a ≤ timeOf leaps b → timeOf leaps b ≤ timeOf leaps a + n → between leaps a b ≤ℤ pos n
+  at-most n h k = subst (λ (z : ℤ). z ≤ℤ pos n) (sym (from-zero (timeOf leaps b) (timeOf leaps a) h)) (leZ-yes (le→leb (timeOf leaps b - timeOf leaps a) n (omega arith)))
 
-  pub not-back : ltZ (between a b) (pos 0) ≡ false → timeOf a ≤ timeOf b
-  not-back h = by (ltb (timeOf b) (timeOf a)) refl
+  pub not-back : ltZ (between leaps a b) (pos 0) ≡ false → timeOf leaps a ≤ timeOf leaps b
+  not-back h = by (ltb (timeOf leaps b) (timeOf leaps a)) refl
     where
-      by : (t : Bool) → ltb (timeOf b) (timeOf a) ≡ t → timeOf a ≤ timeOf b
-      by true e = never (sym h ∙ ap (λ (z : ℤ). ltZ z (pos 0)) (below-zero (timeOf b) (timeOf a) (ltb-true (timeOf b) (timeOf a) e)))
-      by false e = ltb-false (timeOf b) (timeOf a) e
+      by : (t : Bool) → ltb (timeOf leaps b) (timeOf leaps a) ≡ t → timeOf leaps a ≤ timeOf leaps b
+      by true e = never (sym h ∙ ap (λ (z : ℤ). ltZ z (pos 0)) (below-zero (timeOf leaps b) (timeOf leaps a) (ltb-true (timeOf leaps b) (timeOf leaps a) e)))
+      by false e = ltb-false (timeOf leaps b) (timeOf leaps a) e
 
-  pub not-late : (n : ℕ) → ltZ (between a b) (pos 0) ≡ false → ltZ (pos n) (between a b) ≡ false → timeOf b ≤ timeOf a + n
+  pub not-late : (n : ℕ) → ltZ (between leaps a b) (pos 0) ≡ false → ltZ (pos n) (between leaps a b) ≡ false → timeOf leaps b ≤ timeOf leaps a + n
   not-late n f h =
-      let p : timeOf a ≤ timeOf b = not-back f in
-      omega (arith, ltb-false n (timeOf b - timeOf a) (ap (λ (z : ℤ). ltZ (pos n) z) (sym (from-zero (timeOf b) (timeOf a) p)) ∙ h))
+      let p : timeOf leaps a ≤ timeOf leaps b = not-back f in
+      omega (arith, ltb-false n (timeOf leaps b - timeOf leaps a) (ap (λ (z : ℤ). ltZ (pos n) z) (sym (from-zero (timeOf leaps b) (timeOf leaps a) p)) ∙ h))
 
 abbrev pub answer : ℕ → ℤ → Elapsed
 answer n d = record { number = n; ms = d }
 
--- Of two good tags, and where one is bad.
-pub counted : (a b : List ℕ) → goodTag a ≡ true → goodTag b ≡ true → elapsedOf a b ≡ answer 0 (between (tagOf a) (tagOf b))
-unfolding elapsedOf
-counted a b p q = λ i. pick (p i && q i) (answer 0 (between (tagOf a) (tagOf b))) (answer 12 (pos 0))
+-- Of two good tags, where one is bad, and by a list that is none.
+module _ (leaps a b : List ℕ) where
+  answers : (l t : Bool) → goodList leaps ≡ l → goodTag leaps a && goodTag leaps b ≡ t
+      → elapsedOf leaps a b ≡ pick (not l) (answer 19 (pos 0)) (pick t (answer 0 (between leaps (tagOf a) (tagOf b))) (answer 12 (pos 0)))
+  unfolding elapsedOf
+  answers l t g h = λ i. pick (not (g i)) (answer 19 (pos 0)) (pick (h i) (answer 0 (between leaps (tagOf a) (tagOf b))) (answer 12 (pos 0)))
 
-pub not-counted : (a b : List ℕ) → goodTag a && goodTag b ≡ false → elapsedOf a b ≡ answer 12 (pos 0)
-unfolding elapsedOf
-not-counted a b h = ap (λ (t : Bool). pick t (answer 0 (between (tagOf a) (tagOf b))) (answer 12 (pos 0))) h
+  pub counted : goodList leaps ≡ true → goodTag leaps a ≡ true → goodTag leaps b ≡ true → elapsedOf leaps a b ≡ answer 0 (between leaps (tagOf a) (tagOf b))
+  counted l p q = answers true true l (both p q)
 
--- An answer of 0 to each says that both tags are good.
-pub both-accepted : (a b : List ℕ) {r q : TagRead} → r ≡ readTag a → q ≡ readTag b → eqb (r .number) 0 && eqb (q .number) 0 ≡ goodTag a && goodTag b
-both-accepted a b e f = (λ i. eqb (e i .number) 0 && eqb (f i .number) 0) ∙ (λ i. accepted a i && accepted b i)
+  pub not-counted : goodList leaps ≡ true → goodTag leaps a && goodTag leaps b ≡ false → elapsedOf leaps a b ≡ answer 12 (pos 0)
+  not-counted l h = answers true false l h
+
+  pub not-listed : goodList leaps ≡ false → elapsedOf leaps a b ≡ answer 19 (pos 0)
+  not-listed l = answers false (goodTag leaps a && goodTag leaps b) l refl
+
+  -- An answer of 0 to each says that both tags are good.
+  pub both-accepted : {r q : TagRead} → r ≡ readBy leaps a → q ≡ readBy leaps b → eqb (r .number) 0 && eqb (q .number) 0 ≡ goodTag leaps a && goodTag leaps b
+  both-accepted e f = (λ i. eqb (e i .number) 0 && eqb (f i .number) 0) ∙ (λ i. accepted-by leaps a i && accepted-by leaps b i)

@@ -9,7 +9,7 @@ use lib.Arith.{digits-div}
 use lib.Dec.{eqb}
 use borrow.Author.Tests.{eqb-true, eqb-false, eq-eqb}
 use Rattle.ground.specs.Choice.{pick}
-use Rattle.tag.specs.Calendar.{daysIn}
+use Rattle.calendar.specs.Years.{daysIn}
 use Rattle.time.specs.Years.{daysBefore}
 use Rattle.ground.proofs.LawsTests.{never}
 

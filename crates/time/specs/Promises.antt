@@ -5,6 +5,7 @@ use Prim.Native.Nat.{ℕ, _+_, _*_, _-_, _/_, _<_}
 use mathlib.Core.List.{List}
 use lib.IntN.{pos, negℤ, _+ℤ_}
 use lib.Signed.{_<ℤ_}
+use Rattle.calendar.specs.Promises.{IsList}
 use Rattle.tag.specs.Tags.{unmarked, tagOf}
 use Rattle.tag.specs.Promises.{IsTag, Bounded}
 use Rattle.tag.specs.declared.Tag.{Tag}
@@ -28,18 +29,21 @@ pub record SameTime (a b : Tag) : Type 0 where
   pub second : a .second ≡ b .second
   pub ms : a .ms ≡ b .ms
 
--- Elapsed time, refused with 12 for a bad tag; the flywheel mark has no part in it. It is positive, negative or zero as the
--- second tag is later, earlier or the same, changes its sign with the direction, and adds up.
-pub record Elapsing : Type 0 where
-  pub taken : (a b : List ℕ) → IsTag a → IsTag b → elapsedOf a b ≡ record { number = 0; ms = between (tagOf a) (tagOf b) }
-  pub bad-first : (a b : List ℕ) → (IsTag a → ⊥) → elapsedOf a b ≡ record { number = 12; ms = pos 0 }
-  pub bad-second : (a b : List ℕ) → (IsTag b → ⊥) → elapsedOf a b ≡ record { number = 12; ms = pos 0 }
-  pub no-mark : (a b : List ℕ) → elapsedOf (unmarked a) (unmarked b) ≡ elapsedOf a b
-  pub later : (a b : Tag) → Bounded a → Bounded b → Earlier a b → pos 0 <ℤ between a b
-  pub earlier : (a b : Tag) → Bounded a → Bounded b → Earlier b a → between a b <ℤ pos 0
-  pub same : (a b : Tag) → SameTime a b → between a b ≡ pos 0
-  pub backward : (a b : Tag) → between b a ≡ negℤ (between a b)
-  pub additive : (a b c : Tag) → between a b +ℤ between b c ≡ between a c
+-- Elapsed time by one list of leap days, refused with 19 for a bad list, then with 12 for a bad tag; the flywheel mark has no part in it. It
+-- is positive, negative or zero as the second tag is later, earlier or the same, leap seconds among them, and zero for no others; it changes
+-- its sign with the direction, and adds up.
+pub record Elapsing (leaps : List ℕ) : Type 0 where
+  pub no-list : (a b : List ℕ) → (IsList leaps → ⊥) → elapsedOf leaps a b ≡ record { number = 19; ms = pos 0 }
+  pub taken : (a b : List ℕ) → IsList leaps → IsTag leaps a → IsTag leaps b → elapsedOf leaps a b ≡ record { number = 0; ms = between leaps (tagOf a) (tagOf b) }
+  pub bad-first : (a b : List ℕ) → IsList leaps → (IsTag leaps a → ⊥) → elapsedOf leaps a b ≡ record { number = 12; ms = pos 0 }
+  pub bad-second : (a b : List ℕ) → IsList leaps → (IsTag leaps b → ⊥) → elapsedOf leaps a b ≡ record { number = 12; ms = pos 0 }
+  pub no-mark : (a b : List ℕ) → elapsedOf leaps (unmarked a) (unmarked b) ≡ elapsedOf leaps a b
+  pub later : (a b : Tag) → Bounded leaps a → Bounded leaps b → Earlier a b → pos 0 <ℤ between leaps a b
+  pub earlier : (a b : Tag) → Bounded leaps a → Bounded leaps b → Earlier b a → between leaps a b <ℤ pos 0
+  pub same : (a b : Tag) → SameTime a b → between leaps a b ≡ pos 0
+  pub apart : (a b : Tag) → Bounded leaps a → Bounded leaps b → between leaps a b ≡ pos 0 → SameTime a b
+  pub backward : (a b : Tag) → between leaps b a ≡ negℤ (between leaps a b)
+  pub additive : (a b c : Tag) → between leaps a b +ℤ between leaps b c ≡ between leaps a c
 
 -- The days before a year, counted year by year, by the quick formula.
 abbrev pub Quick : Type 0

@@ -5,15 +5,18 @@ use Prim.Native.Nat.{ℕ, _≤_}
 use mathlib.Core.Bool.{Bool, true, false, _&&_, _||_}
 use mathlib.Core.List.{List}
 use lib.Dec.{eqb, ltb}
-use borrow.Author.Tests.{ltb-false, not-false}
+use borrow.Author.Tests.{ltb-false, not-false, eq-eqb, ne-eqb}
 use Rattle.ground.specs.Grounds.{firstOf}
-use Rattle.tag.specs.Tags.{tagOf, goodTag, readTag}
+use Rattle.calendar.specs.Leaps.{goodList}
+use Rattle.tag.specs.Tags.{tagOf, goodTag, readBy}
 use Rattle.tag.specs.declared.TagRead.{TagRead}
 use Rattle.ground.proofs.LawsTests.{never}
-use Rattle.tag.proofs.LawsTags.{accepted, reads}
-use Rattle.ground.proofs.LawsGrounds.{first-none}
+use Rattle.tag.proofs.LawsTags.{accepted-by, reads}
+use Rattle.ground.proofs.LawsGrounds.{first-none, first-then}
+use Rattle.ground.specs.Choice.{pick}
+use Rattle.ground.proofs.LawsChoice.{yes, no}
 use Rattle.row.specs.Rows.{lastBlock}
-use Rattle.watch.specs.Bounds.{lastOfScan, badLimit, badExpected, badLast, grounds, refusalOf}
+use Rattle.watch.specs.Bounds.{lastOfScan, badLimit, badExpected, badLast, lent, offered, grounds, refusalOf}
 use Rattle.watch.specs.declared.Watch.{Watch}
 use Rattle.watch.specs.declared.Verdict.{Verdict}
 use Rattle.watch.specs.declared.Stepped.{Stepped}
@@ -26,18 +29,19 @@ abbrev pub begun : ℕ → Watch → Begun
 begun n w = record { number = n; watch = w }
 
 -- What a number of 0 says: each ground failed.
-pub record Passed (w : Watch) (b : ℕ) (good : Bool) : Type 0 where
+pub record Passed (leaps : List ℕ) (w : Watch) (b : ℕ) (good : Bool) : Type 0 where
   pub limit : badLimit w ≡ false
   pub expected : badExpected w ≡ false
-  pub last : badLast w ≡ false
+  pub list : goodList leaps ≡ true
+  pub last : badLast leaps w ≡ false
   pub block : ltb lastBlock b ≡ false
   pub tag : good ≡ true
 
-pub passed : (w : Watch) (b : ℕ) (good : Bool) → firstOf (grounds w b good) ≡ 0 → Passed w b good
-passed w b good h =
-    let n = first-none (grounds w b good) refl h in
-    let o = n .1 .1 .1 in
-    record { limit = n .0; expected = n .1 .0; last = n .1 .1 .0; block = o .0; tag = not-false good (o .1 .0) }
+pub passed : (leaps : List ℕ) (w : Watch) (b : ℕ) (good : Bool) → firstOf (grounds leaps w b good) ≡ 0 → Passed leaps w b good
+passed leaps w b good h =
+    let n = first-none (grounds leaps w b good) refl h in
+    let o = n .1 .1 .1 .1 in
+    record { limit = n .0; expected = n .1 .0; list = not-false (goodList leaps) (n .1 .1 .0); last = n .1 .1 .1 .0; block = o .0; tag = not-false good (o .1 .0) }
 
 neither : (o p q : Bool) → o && (p || q) ≡ false → o ≡ true → (p ≡ false) × (q ≡ false)
 neither true true q h e = never (sym h)
@@ -51,14 +55,25 @@ from-one w h o = ltb-false (w .expected) 1 (neither (w .opened) (ltb (w .expecte
 pub to-ten : (w : Watch) → badExpected w ≡ false → w .opened ≡ true → w .expected ≤ 10
 to-ten w h o = ltb-false lastOfScan (w .expected) (neither (w .opened) (ltb (w .expected) 1) (ltb lastOfScan (w .expected)) h o .1)
 
--- The number of an offer, of what reading its tag answered.
-pub number-of : (w : Watch) (b : ℕ) (s : List ℕ) {r : TagRead} {good : Bool} {n : ℕ} → r ≡ readTag s → good ≡ eqb (r .number) 0 → n ≡ firstOf (grounds w b good) → n ≡ refusalOf w b s
+pub accepted-for : (leaps : List ℕ) (w : Watch) (b : ℕ) (s : List ℕ) → refusalOf leaps w b s ≡ 0 → Passed leaps w b (goodTag leaps s)
 unfolding refusalOf
-number-of w b s e f h = h ∙ ap (λ (g : Bool). firstOf (grounds w b g)) (f ∙ ap (λ (q : TagRead). eqb (q .number) 0) e ∙ accepted s)
+accepted-for leaps w b s h = passed leaps w b (goodTag leaps s) h
 
-pub accepted-for : (w : Watch) (b : ℕ) (s : List ℕ) → refusalOf w b s ≡ 0 → Passed w b (goodTag s)
-unfolding refusalOf
-accepted-for w b s h = passed w b (goodTag s) h
+-- The number of an offer, by the two lists of grounds: that of the lent record, or where it has none what the offer is refused for.
+module _ (leaps : List ℕ) (w : Watch) (b : ℕ) (s : List ℕ) where
+  both-lists : refusalOf leaps w b s ≡ pick (eqb (firstOf (lent leaps w)) 0) (firstOf (offered b (goodTag leaps s))) (firstOf (lent leaps w))
+  unfolding refusalOf
+  both-lists = first-then (lent leaps w) (offered b (goodTag leaps s)) refl
 
-pub tag-of : (w : Watch) (b : ℕ) (s : List ℕ) {r : TagRead} → r ≡ readTag s → refusalOf w b s ≡ 0 → r .tag ≡ tagOf s
-tag-of w b s e h = λ i. (e ∙ reads s (accepted-for w b s h .tag)) i .tag
+  pub lent-number : {n : ℕ} → n ≡ firstOf (lent leaps w) → (n ≡ 0 → ⊥) → n ≡ refusalOf leaps w b s
+  lent-number e h = sym (both-lists ∙ sym (no _ refl (ne-eqb (firstOf (lent leaps w)) 0 (λ z. h (e ∙ z))) e))
+
+  -- of what reading its tag answered
+  pub offered-number : {n m : ℕ} {r : TagRead} {good : Bool} → n ≡ firstOf (lent leaps w) → n ≡ 0 → r ≡ readBy leaps s → good ≡ eqb (r .number) 0 → m ≡ firstOf (offered b good) → m ≡ refusalOf leaps w b s
+  offered-number e z f g h =
+      h ∙ ap (λ (t : Bool). firstOf (offered b t)) (g ∙ ap (λ (q : TagRead). eqb (q .number) 0) f ∙ accepted-by leaps s)
+      ∙ yes _ refl (eq-eqb (firstOf (lent leaps w)) 0 (sym e ∙ z)) refl
+      ∙ sym both-lists
+
+  pub tag-of : {r : TagRead} → r ≡ readBy leaps s → refusalOf leaps w b s ≡ 0 → r .tag ≡ tagOf s
+  tag-of e h = λ i. (e ∙ reads leaps s (accepted-for leaps w b s h .tag)) i .tag

@@ -22,51 +22,51 @@ use Rattle.watch.specs.declared.Stepped.{Stepped}
 use Rattle.watch.proofs.LawsRules.{stepped}
 
 -- Neither back nor late.
-pub record Timely (w : Watch) (t : Tag) : Type 0 where
-  pub forward : ltZ (between (w .last) t) (pos 0) ≡ false
-  pub soon : ltZ (pos (w .limit)) (between (w .last) t) ≡ false
+pub record Timely (leaps : List ℕ) (w : Watch) (t : Tag) : Type 0 where
+  pub forward : ltZ (between leaps (w .last) t) (pos 0) ≡ false
+  pub soon : ltZ (pos (w .limit)) (between leaps (w .last) t) ≡ false
 
 -- Why an open watch closes.
-pub data Why (w : Watch) (b : ℕ) (t : Tag) : Closing → Type 0 where
-  back : ltZ (between (w .last) t) (pos 0) ≡ true → Why w b t ClockBack
-  late : ltZ (pos (w .limit)) (between (w .last) t) ≡ true → Why w b t Late
-  broken : Why w b t Broken
-  complete : Timely w t → b ≡ w .expected → b ≡ lastOfScan → Why w b t Complete
+pub data Why (leaps : List ℕ) (w : Watch) (b : ℕ) (t : Tag) : Closing → Type 0 where
+  back : ltZ (between leaps (w .last) t) (pos 0) ≡ true → Why leaps w b t ClockBack
+  late : ltZ (pos (w .limit)) (between leaps (w .last) t) ≡ true → Why leaps w b t Late
+  broken : Why leaps w b t Broken
+  complete : Timely leaps w t → b ≡ w .expected → b ≡ lastOfScan → Why leaps w b t Complete
 
-pub data Turn (w : Watch) (b : ℕ) (s : List ℕ) : Stepped → Type 0 where
-  refuses : (refusalOf w b s ≡ 0 → ⊥) → Turn w b s (stepped w (Refused (refusalOf w b s)))
-  strays : refusalOf w b s ≡ 0 → w .opened ≡ false → (b ≡ 0 → ⊥) → Turn w b s (stepped w Stray)
-  opens : refusalOf w b s ≡ 0 → b ≡ 0 → Turn w b s (stepped (expecting 1 (tagOf s) (w .limit)) Opened)
-  closes : refusalOf w b s ≡ 0 → w .opened ≡ true → {why : Closing} → Why w b (tagOf s) why → Turn w b s (closing w b (tagOf s) why)
-  keeps : refusalOf w b s ≡ 0 → w .opened ≡ true → Timely w (tagOf s) → b ≡ w .expected → (b ≡ lastOfScan → ⊥)
-      → Turn w b s (stepped (expecting (w .expected + 1) (tagOf s) (w .limit)) Kept)
+pub data Turn (leaps : List ℕ) (w : Watch) (b : ℕ) (s : List ℕ) : Stepped → Type 0 where
+  refuses : (refusalOf leaps w b s ≡ 0 → ⊥) → Turn leaps w b s (stepped w (Refused (refusalOf leaps w b s)))
+  strays : refusalOf leaps w b s ≡ 0 → w .opened ≡ false → (b ≡ 0 → ⊥) → Turn leaps w b s (stepped w Stray)
+  opens : refusalOf leaps w b s ≡ 0 → b ≡ 0 → Turn leaps w b s (stepped (expecting 1 (tagOf s) (w .limit)) Opened)
+  closes : refusalOf leaps w b s ≡ 0 → w .opened ≡ true → {why : Closing} → Why leaps w b (tagOf s) why → Turn leaps w b s (closing w b (tagOf s) why)
+  keeps : refusalOf leaps w b s ≡ 0 → w .opened ≡ true → Timely leaps w (tagOf s) → b ≡ w .expected → (b ≡ lastOfScan → ⊥)
+      → Turn leaps w b s (stepped (expecting (w .expected + 1) (tagOf s) (w .limit)) Kept)
 
-module _ (w : Watch) (b : ℕ) (s : List ℕ) where
+module _ (leaps : List ℕ) (w : Watch) (b : ℕ) (s : List ℕ) where
   abbrev t : Tag
   t = tagOf s
 
   abbrev d : ℤ
-  d = between (w .last) t
+  d = between leaps (w .last) t
 
-  module _ (taken : refusalOf w b s ≡ 0) where
-    when-open : w .opened ≡ true → Turn w b s (onOpen w b t d)
+  module _ (taken : refusalOf leaps w b s ≡ 0) where
+    when-open : w .opened ≡ true → Turn leaps w b s (onOpen w b t d)
     unfolding onOpen inTime
     when-open o =
-        either (Turn w b s) (ltZ d (pos 0)) (λ e. closes taken o (back e)) (λ forward.
-        either (Turn w b s) (ltZ (pos (w .limit)) d) (λ e. closes taken o (late e)) (λ soon.
-        either (Turn w b s) (not (eqb b (w .expected))) (λ e. closes taken o broken) (λ e.
-        let timely : Timely w t = record { forward = forward; soon = soon } in
+        either (Turn leaps w b s) (ltZ d (pos 0)) (λ e. closes taken o (back e)) (λ forward.
+        either (Turn leaps w b s) (ltZ (pos (w .limit)) d) (λ e. closes taken o (late e)) (λ soon.
+        either (Turn leaps w b s) (not (eqb b (w .expected))) (λ e. closes taken o broken) (λ e.
+        let timely : Timely leaps w t = record { forward = forward; soon = soon } in
         let same : b ≡ w .expected = eqb-true b (w .expected) (not-false (eqb b (w .expected)) e) in
-        either (Turn w b s) (eqb b lastOfScan) (λ e. closes taken o (complete timely same (eqb-true b lastOfScan e))) (λ e. keeps taken o timely same (eqb-false b lastOfScan e)))))
+        either (Turn leaps w b s) (eqb b lastOfScan) (λ e. closes taken o (complete timely same (eqb-true b lastOfScan e))) (λ e. keeps taken o timely same (eqb-false b lastOfScan e)))))
 
-    when-idle : w .opened ≡ false → Turn w b s (onIdle w b t)
+    when-idle : w .opened ≡ false → Turn leaps w b s (onIdle w b t)
     unfolding onIdle
-    when-idle o = either (Turn w b s) (eqb b 0) (λ e. opens taken (eqb-true b 0 e)) (λ e. strays taken o (eqb-false b 0 e))
+    when-idle o = either (Turn leaps w b s) (eqb b 0) (λ e. opens taken (eqb-true b 0 e)) (λ e. strays taken o (eqb-false b 0 e))
 
-    when-good : Turn w b s (onGood w b t)
+    when-good : Turn leaps w b s (onGood leaps w b t)
     unfolding onGood
-    when-good = either (Turn w b s) (w .opened) when-open when-idle
+    when-good = either (Turn leaps w b s) (w .opened) when-open when-idle
 
-  pub turn : Turn w b s (stepOf w b s)
+  pub turn : Turn leaps w b s (stepOf leaps w b s)
   unfolding stepOf
-  turn = either (Turn w b s) (eqb (refusalOf w b s) 0) (λ e. when-good (eqb-true (refusalOf w b s) 0 e)) (λ e. refuses (eqb-false (refusalOf w b s) 0 e))
+  turn = either (Turn leaps w b s) (eqb (refusalOf leaps w b s) 0) (λ e. when-good (eqb-true (refusalOf leaps w b s) 0 e)) (λ e. refuses (eqb-false (refusalOf leaps w b s) 0 e))

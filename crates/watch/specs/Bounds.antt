@@ -1,4 +1,4 @@
--- What an offer is refused for: a lent record outside its bounds, then the block, then its tag.
+-- What an offer is refused for: a lent record outside its bounds, with the list of leap days lent now, then the block, then its tag.
 -- Assumes nothing.
 use Prim.Native.Nat.{ℕ}
 use mathlib.Core.Bool.{Bool, not, _&&_, _||_}
@@ -6,6 +6,7 @@ use mathlib.Core.List.{List, [], _∷_, _++_}
 use lib.Dec.{ltb}
 use Rattle.ground.specs.Grounds.{Ground, _when_, firstOf}
 use Rattle.row.specs.Rows.{lastBlock}
+use Rattle.calendar.specs.Leaps.{goodList}
 use Rattle.tag.specs.Tags.{inBounds, goodTag}
 use Rattle.watch.specs.declared.Watch.{Watch}
 
@@ -24,20 +25,20 @@ badLimit w = ltb longestWait (w .limit)
 abbrev pub badExpected : Watch → Bool
 badExpected w = w .opened && (ltb (w .expected) 1 || ltb lastOfScan (w .expected))
 
-abbrev pub badLast : Watch → Bool
-badLast w = w .opened && not (inBounds (w .last))
+abbrev pub badLast : List ℕ → Watch → Bool
+badLast leaps w = w .opened && not (inBounds leaps (w .last))
 
--- Whatever record is lent is tested: 16 for its limit, 13 for its expected block, 12 for its last tag.
-abbrev pub lent : Watch → List Ground
-lent w = (16 when badLimit w) ∷ (13 when badExpected w) ∷ (12 when badLast w) ∷ []
+-- Whatever record is lent is tested: 16 for its limit, 13 for its expected block; then 19 for the list, and 12 for its last tag by that list.
+abbrev pub lent : List ℕ → Watch → List Ground
+lent leaps w = (16 when badLimit w) ∷ (13 when badExpected w) ∷ (19 when not (goodList leaps)) ∷ (12 when badLast leaps w) ∷ []
 
 -- Then come 4 for the block that is offered and 12 for its tag, which is good or not.
 abbrev pub offered : ℕ → Bool → List Ground
 offered b good = (4 when ltb lastBlock b) ∷ (12 when not good) ∷ []
 
-abbrev pub grounds : Watch → ℕ → Bool → List Ground
-grounds w b good = lent w ++ offered b good
+abbrev pub grounds : List ℕ → Watch → ℕ → Bool → List Ground
+grounds leaps w b good = lent leaps w ++ offered b good
 
 -- The number of an offer of a block and its tag's bytes.
-unfoldable pub refusalOf : Watch → ℕ → List ℕ → ℕ
-refusalOf w b s = firstOf (grounds w b (goodTag s))
+unfoldable pub refusalOf : List ℕ → Watch → ℕ → List ℕ → ℕ
+refusalOf leaps w b s = firstOf (grounds leaps w b (goodTag leaps s))

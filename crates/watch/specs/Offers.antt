@@ -14,25 +14,26 @@ pub record Offer : Type 0 where
   pub block : ℕ
   pub tag : List ℕ
 
-abbrev pub nextOf : Watch → Offer → Watch
-nextOf w o = stepOf w (o .block) (o .tag) .next
+-- One list of leap days is lent with all of them.
+abbrev pub nextOf : List ℕ → Watch → Offer → Watch
+nextOf leaps w o = stepOf leaps w (o .block) (o .tag) .next
 
-abbrev pub verdictOf : Watch → Offer → Verdict
-verdictOf w o = stepOf w (o .block) (o .tag) .verdict
+abbrev pub verdictOf : List ℕ → Watch → Offer → Verdict
+verdictOf leaps w o = stepOf leaps w (o .block) (o .tag) .verdict
 
 -- The watch after offers.
-unfoldable pub after : Watch → List Offer → Watch
-after w [] = w
-after w (o ∷ os) = after (nextOf w o) os
+unfoldable pub after : List ℕ → Watch → List Offer → Watch
+after leaps w [] = w
+after leaps w (o ∷ os) = after leaps (nextOf leaps w o) os
 
 -- The offer is a block 0 and accepted.
-abbrev pub begins : Watch → Offer → Bool
-begins w o = eqb (o .block) 0 && eqb (numberOf (verdictOf w o)) 0
+abbrev pub begins : List ℕ → Watch → Offer → Bool
+begins leaps w o = eqb (o .block) 0 && eqb (numberOf (verdictOf leaps w o)) 0
 
 -- None of the offers is such a one.
-unfoldable pub noneBegins : Watch → List Offer → Bool
-noneBegins w [] = true
-noneBegins w (o ∷ os) = not (begins w o) && noneBegins (nextOf w o) os
+unfoldable pub noneBegins : List ℕ → Watch → List Offer → Bool
+noneBegins leaps w [] = true
+noneBegins leaps w (o ∷ os) = not (begins leaps w o) && noneBegins leaps (nextOf leaps w o) os
 
 -- Blocks in order, each with its tag: block k, and the blocks before it.
 abbrev pub offerOf : (ℕ → List ℕ) → ℕ → Offer

@@ -53,9 +53,10 @@ unfoldable pub onOpen : Watch → ℕ → Tag → ℤ → Stepped
 onOpen w b t d = pick (ltZ d (pos 0)) (closing w b t ClockBack) (pick (ltZ (pos (w .limit)) d) (closing w b t Late) (inTime w b t))
 
 -- An offer of a known block with a good tag.
-unfoldable pub onGood : Watch → ℕ → Tag → Stepped
-onGood w b t = pick (w .opened) (onOpen w b t (between (w .last) t)) (onIdle w b t)
+unfoldable pub onGood : List ℕ → Watch → ℕ → Tag → Stepped
+onGood leaps w b t = pick (w .opened) (onOpen w b t (between leaps (w .last) t)) (onIdle w b t)
 
--- An offer of a block and its tag's bytes; a refused record comes back as given.
-unfoldable pub stepOf : Watch → ℕ → List ℕ → Stepped
-stepOf w b s = pick (eqb (refusalOf w b s) 0) (onGood w b (tagOf s)) (record { next = w; verdict = Refused (refusalOf w b s) })
+-- An offer of a block and its tag's bytes, with a list of leap days; a refused record comes back as given.
+unfoldable pub stepOf : List ℕ → Watch → ℕ → List ℕ → Stepped
+stepOf leaps w b s =
+    pick (eqb (refusalOf leaps w b s) 0) (onGood leaps w b (tagOf s)) (record { next = w; verdict = Refused (refusalOf leaps w b s) })

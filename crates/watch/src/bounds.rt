@@ -3,7 +3,7 @@ ghost use mathlib.Core.Path.{_≡_};
 ghost use lib.Dec.{eqb, ltb};
 ghost use Rattle.ground.specs.Grounds.{firstOf};
 ghost use Rattle.row.specs.Rows.{lastBlock};
-ghost use Rattle.watch.specs.Bounds.{longestWait, badExpected, badLast, offered, grounds};
+ghost use Rattle.watch.specs.Bounds.{longestWait, badExpected, badLast, lent, offered};
 use crate::Watch;
 
 // The longest waiting limit, in ms.
@@ -29,11 +29,11 @@ fn bad_expected(w: Watch) -> bool
     w.opened & ((w.expected < 1) | (LAST_OF_SCAN < w.expected))
 }
 
-fn bad_last(w: Watch) -> bool
-    ensures { λ r. ⌜ r ≡ badLast w ⌝ }
+fn bad_last(w: Watch, leaps: &[u32]) -> bool
+    ensures { λ r. ⌜ r ≡ badLast (now (leaps .entry)) w ⌝ }
 {
     let last = w.last;
-    let good = tag::in_bounds(last);
+    let good = tag::in_bounds(last, leaps);
     w.opened & !good
 }
 
@@ -43,8 +43,27 @@ fn unknown_block(block: u8) -> bool
     row::LAST_BLOCK < block
 }
 
-// The number of the first ground that holds, of the offered block and its tag, which is good or not.
-fn offered(block: u8, good: bool) -> u8
+// The number of the first ground that holds, of the lent record and the list lent with it.
+pub(crate) fn lent(w: Watch, leaps: &[u32]) -> u8
+    ensures { λ r. ⌜ r ≡ firstOf (lent (now (leaps .entry)) w) ⌝ }
+{
+    if too_long(w.limit) {
+        return ground::LONG_LIMIT;
+    }
+    if bad_expected(w) {
+        return ground::NO_RECORD;
+    }
+    if !calendar::is_good_list(leaps) {
+        return ground::BAD_LEAP_DAYS;
+    }
+    if bad_last(w, leaps) {
+        return ground::BAD_TAG;
+    }
+    ground::ACCEPTED
+}
+
+// The same of the offered block and its tag, which is good or not.
+pub(crate) fn offered(block: u8, good: bool) -> u8
     ensures { λ r. ⌜ r ≡ firstOf (offered block good) ⌝ }
 {
     if unknown_block(block) {
@@ -54,20 +73,4 @@ fn offered(block: u8, good: bool) -> u8
         return ground::BAD_TAG;
     }
     ground::ACCEPTED
-}
-
-// The same, the lent record first.
-pub(crate) fn refusal(w: Watch, block: u8, good: bool) -> u8
-    ensures { λ r. ⌜ r ≡ firstOf (grounds w block good) ⌝ }
-{
-    if too_long(w.limit) {
-        return ground::LONG_LIMIT;
-    }
-    if bad_expected(w) {
-        return ground::NO_RECORD;
-    }
-    if bad_last(w) {
-        return ground::BAD_TAG;
-    }
-    offered(block, good)
 }

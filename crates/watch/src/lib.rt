@@ -1,7 +1,9 @@
 // The watch that follows blocks 0 to 10 of a scan: how it begins, one offer to it by value, and the thin function over a watch that the
-// host lends. The rules stand in specs/Rules.antt, what is promised of any sequence of offers in specs/Promises.antt.
+// host lends. With each offer comes the list of leap days. The rules stand in specs/Rules.antt, what is promised of any sequence of offers in
+// specs/Promises.antt.
 ghost use mathlib.Core.Path.{_≡_};
 ghost use Rattle.watch.specs.Rules.{beginOf, stepOf};
+ghost use Rattle.watch.specs.declared.Verdict.the-variants.{Refused};
 use tag::Tag;
 
 mod bounds; // what an offer is refused for
@@ -62,29 +64,38 @@ pub fn begin(limit: u32) -> Begun
     }
 }
 
-// One offer, by value: a block number and its tag's bytes.
-pub fn step(w: Watch, block: u8, tag: &[u8]) -> Stepped
-    ensures { λ r. ⌜ r ≡ stepOf w block (now (tag .entry)) ⌝ }
+fn refused(w: Watch, number: u8) -> Stepped
+    ensures { λ r. ⌜ r ≡ record { next = w; verdict = Refused number } ⌝ }
 {
-    let read = tag::read_tag(tag);
-    let good = bounds::is(read.number, ground::ACCEPTED);
-    let number = bounds::refusal(w, block, good);
-    if bounds::is(number, ground::ACCEPTED) {
-        let t = read.tag;
-        rules::on_good(w, block, t)
-    } else {
-        Stepped {
-            next: w,
-            verdict: Verdict::Refused(number),
-        }
+    Stepped {
+        next: w,
+        verdict: Verdict::Refused(number),
     }
 }
 
-// One offer to a watch that the host lends, changed where it stands.
-pub fn offer(w: &mut Watch, block: u8, tag: &[u8]) -> Verdict
-    ensures { λ r. ⌜ (now (w .exit) ≡ stepOf (now (w .entry)) block (now (tag .entry)) .next) × (r ≡ stepOf (now (w .entry)) block (now (tag .entry)) .verdict) ⌝ }
+// One offer, by value: a block number and its tag's bytes, with the list of leap days. The list is tested once, before the tag is read.
+pub fn step(w: Watch, block: u8, tag: &[u8], leaps: &[u32]) -> Stepped
+    ensures { λ r. ⌜ r ≡ stepOf (now (leaps .entry)) w block (now (tag .entry)) ⌝ }
 {
-    let s = step(*w, block, tag);
+    let lent = bounds::lent(w, leaps);
+    if !bounds::is(lent, ground::ACCEPTED) {
+        return refused(w, lent);
+    }
+    let read = tag::read_by(tag, leaps);
+    let good = bounds::is(read.number, ground::ACCEPTED);
+    let number = bounds::offered(block, good);
+    if !bounds::is(number, ground::ACCEPTED) {
+        return refused(w, number);
+    }
+    let t = read.tag;
+    rules::on_good(w, block, t, leaps)
+}
+
+// One offer to a watch that the host lends, changed where it stands.
+pub fn offer(w: &mut Watch, block: u8, tag: &[u8], leaps: &[u32]) -> Verdict
+    ensures { λ r. ⌜ (now (w .exit) ≡ stepOf (now (leaps .entry)) (now (w .entry)) block (now (tag .entry)) .next) × (r ≡ stepOf (now (leaps .entry)) (now (w .entry)) block (now (tag .entry)) .verdict) ⌝ }
+{
+    let s = step(*w, block, tag, leaps);
     *w = s.next;
     s.verdict
 }

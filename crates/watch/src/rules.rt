@@ -3,6 +3,7 @@ ghost use mathlib.Core.Path.{_≡_};
 ghost use mathlib.Core.Bool.{true};
 ghost use Prim.Native.Nat.{_≤_};
 ghost use lib.IntN.{pos};
+ghost use lib.ListN.{length};
 ghost use lib.Signed.{ltZ};
 ghost use Rattle.watch.specs.Rules.{idle, expecting, closing, onIdle, inTime, onOpen, onGood};
 use crate::Closing;
@@ -114,14 +115,14 @@ fn on_open(w: Watch, block: u8, t: Tag, d: i64) -> Stepped
     in_time(w, block, t)
 }
 
-// An offer of a known block with a good tag.
-pub(crate) fn on_good(w: Watch, block: u8, t: Tag) -> Stepped
-    requires { ⌜ (w .opened ≡ true → w .expected ≤ 10) ⌝ }
-    ensures { λ r. ⌜ r ≡ onGood w block t ⌝ }
+// An offer of a known block with a good tag, by a list of at most 64 leap days.
+pub(crate) fn on_good(w: Watch, block: u8, t: Tag, leaps: &[u32]) -> Stepped
+    requires { ⌜ (w .opened ≡ true → w .expected ≤ 10) × (length (now leaps) ≤ 64) ⌝ }
+    ensures { λ r. ⌜ r ≡ onGood (now (leaps .entry)) w block t ⌝ }
 {
     if w.opened {
         let last = w.last;
-        let d = time::between(last, t);
+        let d = time::between(last, t, leaps);
         on_open(w, block, t, d)
     } else {
         on_idle(w, block, t)

@@ -10,4 +10,4 @@ unfolding inBounds
 returns c = cc
 
 pub in-bounds-spec : {M : Type 1} → statement M
-in-bounds-spec = tie.close (tie.spec (λ c κs. search needs) returns)
+in-bounds-spec = tie.close (tie.spec (λ c κs. search needs) (λ c κs. search needs) returns)

@@ -1,4 +1,4 @@
--- `tag::refused` is the answer to a bad tag: what it calls is the zero tag.
+-- `tag::refused` is a refusal of its number: what it calls is the zero tag.
 -- Assumes nothing.
 use borrow.Author.Needs.{needs}
 use Rattle.tag.proofs.refused.Statement.{statement}

@@ -1,44 +1,79 @@
--- `watch::step` refuses by the number, and goes to the rules where it is 0: then an open watch's expected block is in bounds.
+-- `watch::step` refuses by the number, of the lent record and then of the offer, and goes to the rules where both are 0: then an open watch's
+-- expected block is in bounds, and the list is one.
 -- Assumes nothing.
-use mathlib.Core.Path.{ap, sym, _∙_}
+use mathlib.Core.Path.{_≡_, ap, sym, _∙_}
 use Prim.Native.Nat.{ℕ}
 use lib.Dec.{eqb}
 use borrow.Author.Needs.{needs}
-use borrow.Author.Tests.{eqb-true}
-use Rattle.ground.proofs.LawsChoice.{yes, no}
+use borrow.Author.Tests.{eqb-true, eqb-false, not-true, not-false}
+use Rattle.ground.specs.Choice.{pick}
+use Rattle.ground.proofs.LawsGrounds.{accepts, refuses}
+use Rattle.calendar.proofs.LawsLists.{short}
+use Rattle.tag.specs.Tags.{tagOf}
 use Rattle.tag.specs.declared.Tag.{Tag}
 use Rattle.watch.specs.Rules.{onGood, stepOf}
+use Rattle.watch.specs.declared.Watch.{Watch}
+use Rattle.watch.specs.declared.Stepped.{Stepped}
 use Rattle.watch.specs.declared.Verdict.the-variants.{Refused}
-use Rattle.watch.proofs.LawsRules.{stepped, passed, to-ten, number-of, tag-of}
+use Rattle.watch.proofs.LawsRules.{stepped, accepted-for, to-ten, lent-number, offered-number, tag-of}
 use Rattle.watch.proofs.step.Statement.{statement}
 use Rattle.watch.proofs.step.Tie as tie
 
-on-good-requires : tie.Need-on-good-requires
-on-good-requires c κs =
-    let number = c .before .before .before in
-    let a = number .before .before .before .before .args in
-    let none = sym (number .refusal .ensures) ∙ eqb-true (number .refusal .result) 0 (sym (c .before .before .is2 .ensures) ∙ c .before .if1 .taken) in
-    to-ten (a .w) (passed (a .w) (a .block) (number .before .is .result) none .expected)
+-- a refused record comes back with its number
+by-number : (w : Watch) (good : Stepped) {n m : ℕ} → n ≡ m → (n ≡ 0 → ⊥) → stepped w (Refused n) ≡ pick (eqb m 0) good (stepped w (Refused m))
+by-number w good e h = refuses good (λ (n : ℕ). stepped w (Refused n)) (sym e) h
 
 returns : tie.Need-returns
 unfolding stepOf
 returns c =
-    let number = c .before .before .before .before in
-    let read = number .before .before in
-    let a = read .before .before .args in
-    let is-number = number-of (a .w) (a .block) (a .tag .now) (read .read-tag .ensures) (number .before .is .ensures) (number .refusal .ensures) in
-    let none = sym is-number ∙ eqb-true (number .refusal .result) 0 (sym (c .before .before .before .is2 .ensures) ∙ c .before .before .if1 .taken) in
-    yes _ (c .before .before .before .is2 .ensures ∙ ap (λ (n : ℕ). eqb n 0) is-number) (c .before .before .if1 .taken)
-    (c .on-good .ensures ∙ ap (λ (t : Tag). onGood (a .w) (a .block) t) (tag-of (a .w) (a .block) (a .tag .now) (read .read-tag .ensures) none))
+    let lent = c .before .before .before in
+    let a = lent .before .before .before .args in
+    let refused = eqb-false (lent .lent .result) 0 (sym (c .before .before .is .ensures) ∙ not-true _ (c .before .if1 .taken)) in
+    let is-number = lent-number (a .leaps .now) (a .w) (a .block) (a .tag .now) (lent .lent .ensures) refused in
+    c .refused .ensures ∙ by-number (a .w) (onGood (a .leaps .now) (a .w) (a .block) (tagOf (a .tag .now))) is-number refused
 
 returns-2 : tie.Need-returns-2
 unfolding stepOf
 returns-2 c =
-    let number = c .before .before in
+    let number = c .before .before .before in
     let read = number .before .before in
-    let a = read .before .before .args in
-    let is-number = number-of (a .w) (a .block) (a .tag .now) (read .read-tag .ensures) (number .before .is .ensures) (number .refusal .ensures) in
-    no _ (c .before .is2 .ensures ∙ ap (λ (n : ℕ). eqb n 0) is-number) (c .if1 .left) (ap (λ (n : ℕ). stepped (a .w) (Refused n)) is-number)
+    let lent = read .before .before .before in
+    let a = lent .before .before .before .args in
+    let none = eqb-true (lent .lent .result) 0 (sym (read .before .before .is .ensures) ∙ not-false _ (read .before .if1 .left)) in
+    let is-number =
+    offered-number (a .leaps .now) (a .w) (a .block) (a .tag .now) (lent .lent .ensures) none (read .read-by .ensures) (number .before .is2 .ensures) (number .offered .ensures) in
+    let refused = eqb-false (number .offered .result) 0 (sym (c .before .before .is3 .ensures) ∙ not-true _ (c .before .if2 .taken)) in
+    c .refused2 .ensures ∙ by-number (a .w) (onGood (a .leaps .now) (a .w) (a .block) (tagOf (a .tag .now))) is-number refused
+
+on-good-requires : tie.Need-on-good-requires
+on-good-requires c κs =
+    let number = c .before .before .before in
+    let read = number .before .before in
+    let lent = read .before .before .before in
+    let a = lent .before .before .before .args in
+    let none = eqb-true (lent .lent .result) 0 (sym (read .before .before .is .ensures) ∙ not-false _ (read .before .if1 .left)) in
+    let is-number =
+    offered-number (a .leaps .now) (a .w) (a .block) (a .tag .now) (lent .lent .ensures) none (read .read-by .ensures) (number .before .is2 .ensures) (number .offered .ensures) in
+    let zero = sym is-number ∙ eqb-true (number .offered .result) 0 (sym (c .before .before .is3 .ensures) ∙ not-false _ (c .before .if2 .left)) in
+    let passed = accepted-for (a .leaps .now) (a .w) (a .block) (a .tag .now) zero in
+    (to-ten (a .w) (passed .expected), short (a .leaps .now) (passed .list))
+
+returns-3 : tie.Need-returns-3
+unfolding stepOf
+returns-3 c =
+    let number = c .before .before .before .before in
+    let read = number .before .before in
+    let lent = read .before .before .before in
+    let a = lent .before .before .before .args in
+    let none = eqb-true (lent .lent .result) 0 (sym (read .before .before .is .ensures) ∙ not-false _ (read .before .if1 .left)) in
+    let is-number =
+    offered-number (a .leaps .now) (a .w) (a .block) (a .tag .now) (lent .lent .ensures) none (read .read-by .ensures) (number .before .is2 .ensures) (number .offered .ensures) in
+    let zero = sym is-number ∙ eqb-true (number .offered .result) 0 (sym (c .before .before .before .is3 .ensures) ∙ not-false _ (c .before .before .if2 .left)) in
+    c .on-good .ensures
+    ∙ ap (λ (t : Tag). onGood (a .leaps .now) (a .w) (a .block) t) (tag-of (a .leaps .now) (a .w) (a .block) (a .tag .now) (read .read-by .ensures) zero)
+    ∙ accepts (onGood (a .leaps .now) (a .w) (a .block) (tagOf (a .tag .now))) (λ (n : ℕ). stepped (a .w) (Refused n)) zero
 
 pub step-spec : {M : Type 1} → statement M
-step-spec = tie.close (tie.spec (λ c κs. search needs) (λ c κs. search needs) (λ c κs. search needs) (λ c κs. search needs) on-good-requires returns returns-2)
+step-spec =
+    tie.close
+    (tie.spec (λ c κs. search needs) (λ c κs. search needs) (λ c κs. search needs) returns (λ c κs. search needs) (λ c κs. search needs) (λ c κs. search needs) (λ c κs. search needs) (λ c κs. search needs) returns-2 on-good-requires returns-3)

@@ -1,10 +1,10 @@
--- `tag::calendar::days_in` picks by `is_leap`, as the definition does.
+-- `calendar::years::days_in` picks by `is_leap`, as the definition does.
 -- Assumes nothing.
 use mathlib.Core.Path.{refl}
 use borrow.Author.Needs.{needs}
 use Rattle.ground.proofs.LawsChoice.{yes, no}
-use Rattle.tag.proofs.calendar.days_in.Statement.{statement}
-use Rattle.tag.proofs.calendar.days_in.Tie as tie
+use Rattle.calendar.proofs.years.days_in.Statement.{statement}
+use Rattle.calendar.proofs.years.days_in.Tie as tie
 
 returns : tie.Need-returns
 returns c = yes _ (c .before .is-leap .ensures) (c .if1 .taken) refl

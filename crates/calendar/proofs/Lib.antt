@@ -1,0 +1,3 @@
+pub mod LawsLeaps
+pub mod LawsLists
+pub mod KeepsLists
