@@ -2,6 +2,7 @@
  * passed, each detector record with its channel and detector, and the time. A worked example of the reader. */
 #include <stdio.h>
 
+#include "leap_days.h"
 #include "rahmisve.h"
 
 /* The text of each answer. */
@@ -15,15 +16,15 @@ static void print_time(const uint8_t *tag)
     uint8_t begin[RAHMISVE_TAG_BYTES];
     int64_t ms;
 
-    unsigned answer = rahmisve_read_tag(tag, RAHMISVE_TAG_BYTES, time);
+    unsigned answer = rahmisve_read_tag(tag, RAHMISVE_TAG_BYTES, leap_days, LEAP_DAYS, time);
     if (answer != RAHMISVE_ANSWER_ACCEPTED) {
         printf("time: refused: %u, %s\n", answer, texts[answer]);
         return;
     }
     midnight[RAHMISVE_TIME_YEAR] = time[RAHMISVE_TIME_YEAR];
     midnight[RAHMISVE_TIME_DAY] = time[RAHMISVE_TIME_DAY];
-    rahmisve_write_tag(midnight, begin);
-    rahmisve_elapsed(begin, sizeof begin, tag, RAHMISVE_TAG_BYTES, &ms);
+    rahmisve_write_tag(midnight, leap_days, LEAP_DAYS, begin);
+    rahmisve_elapsed(begin, sizeof begin, tag, RAHMISVE_TAG_BYTES, leap_days, LEAP_DAYS, &ms);
     printf("time: %u day %u, ", (unsigned)time[RAHMISVE_TIME_YEAR], (unsigned)time[RAHMISVE_TIME_DAY]);
     printf("%02u:%02u:%02u.%03u", (unsigned)time[RAHMISVE_TIME_HOUR], (unsigned)time[RAHMISVE_TIME_MINUTE],
            (unsigned)time[RAHMISVE_TIME_SECOND], (unsigned)time[RAHMISVE_TIME_MILLISECOND]);

@@ -4,6 +4,7 @@
 #include <stdio.h>
 #include <string.h>
 
+#include "leap_days.h"
 #include "rahmisve.h"
 
 enum { WAIT_MS = 5000 };
@@ -52,7 +53,7 @@ static unsigned next_field(struct recording *from, uint8_t *tag, const uint8_t *
 static void print_time(const uint8_t *tag)
 {
     uint32_t time[RAHMISVE_TIME_NUMBERS];
-    rahmisve_read_tag(tag, RAHMISVE_TAG_BYTES, time);
+    rahmisve_read_tag(tag, RAHMISVE_TAG_BYTES, leap_days, LEAP_DAYS, time);
     printf("%04u day %u, ", (unsigned)time[RAHMISVE_TIME_YEAR], (unsigned)time[RAHMISVE_TIME_DAY]);
     printf("%02u:%02u:%02u.%03u", (unsigned)time[RAHMISVE_TIME_HOUR], (unsigned)time[RAHMISVE_TIME_MINUTE],
            (unsigned)time[RAHMISVE_TIME_SECOND], (unsigned)time[RAHMISVE_TIME_MILLISECOND]);
@@ -70,7 +71,7 @@ static void offer(unsigned long field, const uint8_t *body, size_t length, uint3
     if (answer == RAHMISVE_ANSWER_ACCEPTED)
         answer = rahmisve_plan(header, sizeof header, &block, &version, &size, &records, &word_count, &field_bytes);
     if (answer == RAHMISVE_ANSWER_ACCEPTED)
-        answer = rahmisve_watch_offer(watch, block, tag, RAHMISVE_TAG_BYTES, &verdict);
+        answer = rahmisve_watch_offer(watch, block, tag, RAHMISVE_TAG_BYTES, leap_days, LEAP_DAYS, &verdict);
     if (answer != RAHMISVE_ANSWER_ACCEPTED) {
         printf("field %lu: refused: %u, %s\n", field, answer, texts[answer]);
     } else if (verdicts[verdict]) {

@@ -31,7 +31,7 @@ int main(void)
 
     for (unsigned i = 0; i < WORDS; i++)
         words[i] = (uint16_t)(100 * (i / RECORD + 1) + i % RECORD);
-    unsigned answer = rahmisve_write_tag(time, header + RAHMISVE_HEADER_TIME);
+    unsigned answer = rahmisve_write_tag(time, NULL, 0, header + RAHMISVE_HEADER_TIME); /* second 59 needs no leap days */
     if (answer == RAHMISVE_ANSWER_ACCEPTED)
         answer = rahmisve_write(header, sizeof header, words, WORDS, block, sizeof block, &bytes);
     if (answer != RAHMISVE_ANSWER_ACCEPTED) {

@@ -6,7 +6,7 @@
  *
  * VERSION. RAHMISVE_VERSION is the version of this file, rahmisve_version() that of the archive. Every change of a signature, a size or a
  * place raises it, every new or changed number of an answer, a verdict or a find, and every change of what a block's row allows or its
- * records hold: 2 gave block 2 its fourth record in version 3 of the format, 3 brought answer 18. Where
+ * records hold: 2 gave block 2 its fourth record in version 3 of the format, 3 brought answer 18, 4 the leap days and answer 19. Where
  * `rahmisve_version() != RAHMISVE_VERSION` the program was built with the header of another archive, and nothing else below may be called.
  *
  * ANSWERS. A function returns its answer: 0, which is accepted, or the number of a refusal, each named once in the list below. Of several
@@ -26,8 +26,8 @@
  * POINTERS. A buffer is a pointer and, behind it, how many elements it has: `block`, `block_length`. Nothing else is read or written.
  * Where the length is 0 the pointer is not followed, and may be NULL. The caller sees to four things, which nothing can check:
  *   - A pointer leads to as many elements as its length says, or as its declaration below says.
- *   - A buffer of bytes may stand at any address. One of uint16_t, and a place or row of uint32_t, uint64_t, int64_t or size_t, is aligned
- *     as the C compiler aligns that type; storage declared or allocated as such is.
+ *   - A buffer of bytes may stand at any address. One of uint16_t or uint32_t, and a place or row of uint32_t, uint64_t, int64_t or size_t,
+ *     is aligned as the C compiler aligns that type; storage declared or allocated as such is.
  *   - A place for an answer is always written, so it may not be NULL, not even where the call is refused. Neither may a watch or a time.
  *   - What a call writes may not overlap anything else that is lent to it. What it only reads may overlap: rahmisve_elapsed may be
  *     given one tag twice.
@@ -49,7 +49,7 @@ extern "C" {
 
 /* ---- Version -------------------------------------------------------------------------------------------------------------------- */
 
-#define RAHMISVE_VERSION 3
+#define RAHMISVE_VERSION 4
 
 /* The version of the archive that is linked. */
 uint32_t rahmisve_version(void);
@@ -82,7 +82,8 @@ uint32_t rahmisve_version(void);
     ANSWER(OTHER_FIELD, 15, "a field of a recording with another tag than 1") \
     ANSWER(LONG_LIMIT, 16, "a waiting limit above 3,600,000 ms") \
     ANSWER(OFF_BOUNDARY, 17, "a check word off its 16-bit boundary") /* which no block has: every field is a multiple of 16 bits */ \
-    ANSWER(NO_BLOCK, 18, "no start has an acceptable block")
+    ANSWER(NO_BLOCK, 18, "no start has an acceptable block") \
+    ANSWER(BAD_LEAP_DAYS, 19, "more than 64 leap days, two that do not rise, or one that no year has")
 
 /* RAHMISVE_ANSWER_ACCEPTED, RAHMISVE_ANSWER_NO_HEADER and so on, and how many numbers there are. */
 #define RAHMISVE_CONSTANT(name, number, text) RAHMISVE_ANSWER_##name = number,
@@ -158,27 +159,50 @@ uint8_t rahmisve_parity_sounder(const uint16_t *words, size_t words_length, uint
 
 /* ---- Time tags ------------------------------------------------------------------------------------------------------------------ */
 
-#define RAHMISVE_TAG_BYTES 8    /* a time tag as it is sent */
-#define RAHMISVE_TIME_NUMBERS 7 /* a time: seven numbers in a row */
+#define RAHMISVE_TAG_BYTES 8       /* a time tag as it is sent */
+#define RAHMISVE_TIME_NUMBERS 7    /* a time: seven numbers in a row */
+#define RAHMISVE_MOST_LEAP_DAYS 64 /* how many leap days may be lent */
 
 /* Places in a time. */
 #define RAHMISVE_TIME_YEAR 0        /* 0 to 9999 */
 #define RAHMISVE_TIME_DAY 1         /* of the year, from 1 */
 #define RAHMISVE_TIME_HOUR 2        /* 0 to 23 */
 #define RAHMISVE_TIME_MINUTE 3      /* 0 to 59 */
-#define RAHMISVE_TIME_SECOND 4      /* 0 to 59 */
+#define RAHMISVE_TIME_SECOND 4      /* 0 to 59; at 23:59 on a leap day that is lent, 60 too */
 #define RAHMISVE_TIME_MILLISECOND 5 /* 0 to 999 */
 #define RAHMISVE_TIME_FLYWHEEL 6    /* the flywheel mark: given back as 1 or 0; taken, any number but 0 puts it on */
 
-/* Reads a tag of eight bytes. Refusal: 12. */
-uint8_t rahmisve_read_tag(const uint8_t *tag, size_t tag_length, uint32_t time[RAHMISVE_TIME_NUMBERS]);
+/* A leap day is a day whose last minute has 61 seconds. Such days are announced and cannot be computed, so the caller lends a list of them
+ * with every tag. There a leap day is one number, year x 1000 + day of the year: 2016366 is 2016 day 366. The numbers rise strictly, and
+ * there are at most RAHMISVE_MOST_LEAP_DAYS. Of
+ *
+ *     static const uint32_t leap_days[] = {2012182, 2015181, 2016366};
+ *
+ * `leap_days, 3` is lent. The list is only read, and nothing of it is kept: threads may share one. NULL and 0 lend an empty list, by which
+ * no day is a leap day and every day has 86,400,000 ms. docs/LINKING.md says where a list comes from.
+ * Second 60 is good at 23:59 on a listed day, with any millisecond, and nowhere else. A time counts 1,000 ms more for each listed day
+ * before its own day. So 23:59:60.000 comes 1,000 ms after 23:59:59.000, and 1,000 ms before the midnight that follows.
+ * Answer 19 speaks of the list alone, and comes before the tag is looked at: there are more than RAHMISVE_MOST_LEAP_DAYS, a number is not
+ * above the one before it, or it is no day of the years 0 to 9999, as 2015000, 2015366 and 10000001 are none. No tag is accepted with such
+ * a list: mend it, or lend none.
+ * Lend one list throughout, since times are comparable where one list counted them. It may grow meanwhile: a later day at its end changes
+ * no answer on tags before that day. */
 
-/* Writes the tag of a time. Refusal: 12 where a number is out of bounds; `tag` is a place, and has zeros then. */
-uint8_t rahmisve_write_tag(const uint32_t time[RAHMISVE_TIME_NUMBERS], uint8_t tag[RAHMISVE_TAG_BYTES]);
+/* Reads a tag of eight bytes.
+ * Refusals: 19 for the list, then 12. */
+uint8_t rahmisve_read_tag(const uint8_t *tag, size_t tag_length, const uint32_t *leap_days, size_t leap_days_length,
+                          uint32_t time[RAHMISVE_TIME_NUMBERS]);
 
-/* The time from one tag to another in milliseconds, negative where the second is earlier. The flywheel mark does not enter it.
- * Refusal: 12. */
-uint8_t rahmisve_elapsed(const uint8_t *from, size_t from_length, const uint8_t *to, size_t to_length, int64_t *ms);
+/* Writes the tag of a time.
+ * Refusals: 19 for the list, then 12 where a number is out of bounds; `tag` is a place, and has zeros then. */
+uint8_t rahmisve_write_tag(const uint32_t time[RAHMISVE_TIME_NUMBERS], const uint32_t *leap_days, size_t leap_days_length,
+                           uint8_t tag[RAHMISVE_TAG_BYTES]);
+
+/* The time from one tag to another in milliseconds, leap seconds between them counted, negative where the second is earlier. The flywheel
+ * mark does not enter it.
+ * Refusals: 19 for the list, then 12. */
+uint8_t rahmisve_elapsed(const uint8_t *from, size_t from_length, const uint8_t *to, size_t to_length, const uint32_t *leap_days,
+                         size_t leap_days_length, int64_t *ms);
 
 /* ---- The scan watch ------------------------------------------------------------------------------------------------------------- */
 
@@ -207,14 +231,19 @@ uint8_t rahmisve_elapsed(const uint8_t *from, size_t from_length, const uint8_t 
 /* Begins an idle watch with a waiting limit in ms. Refusal: 16, and the watch is not written. */
 uint8_t rahmisve_watch_begin(uint32_t limit, uint32_t watch[RAHMISVE_WATCH_NUMBERS]);
 
-/* Offers a block and the bytes of its tag. `verdict` says what that did. A closing offer of block 0 also opens a new scan, so look at
- * watch[RAHMISVE_WATCH_OPEN]; after any other closing the watch is idle.
+/* Offers a block, the bytes of its tag and the leap days to count by. `verdict` says what that did. A closing offer of block 0 also opens a
+ * new scan, so look at watch[RAHMISVE_WATCH_OPEN]; after any other closing the watch is idle.
  * Where the offer is refused, and where it is a stray, the watch is only read, and may stand in write-protected memory. Any other offer
  * writes it number by number: threads that share a watch take a lock, and where an interrupt uses it too, interrupts are off meanwhile.
- * Refusals: 16, 13, 12 for the watch, then 4 for the block, 12 for its tag. A watch that is refused stays so, whatever is offered, block 0
- * too: begin it anew. 12 is for the watch where rahmisve_read_tag accepts the offered tag. */
+ * A watch keeps no leap days: those of this offer judge and count its last tag as well as the offered one. So lend one list from block 0 to
+ * the end of the scan. With one list and one limit throughout, a scan that completes took at most ten times the limit. A last tag with
+ * second 60 is bad by a list that does not have its day.
+ * Refusals: 16 and 13 for the watch, 19 for the list, 12 for the watch's last tag, then 4 for the block, 12 for its tag; 13 and the first
+ * 12 only while a scan is open. With 19 the list is wrong, and the watch may go on: offer the same again with a good list. A watch that is
+ * refused itself stays so by the same list, whatever is offered, block 0 too: begin it anew. 12 is for the watch where rahmisve_read_tag
+ * accepts the offered tag by that list. */
 uint8_t rahmisve_watch_offer(uint32_t watch[RAHMISVE_WATCH_NUMBERS], uint32_t block, const uint8_t *tag, size_t tag_length,
-                             uint8_t *verdict);
+                             const uint32_t *leap_days, size_t leap_days_length, uint8_t *verdict);
 
 /* ---- Recordings ----------------------------------------------------------------------------------------------------------------- */
 

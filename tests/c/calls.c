@@ -580,6 +580,66 @@ static void parity(void)
     sections(sounder, 2, of_sounder, "parity_sounder: each section by itself", "parity_sounder: its refusals give zeros");
 }
 
+/* ---- leap days ------------------------------------------------------------------------------------------------------------------ */
+
+enum { MOST_DAYS = RAHMISVE_MOST_LEAP_DAYS };
+
+/* The list that is lent from here on, with something around it; at first there is none. */
+static uint32_t list_room[MOST_DAYS + 3], was_list[MOST_DAYS + 3], *days;
+static size_t days_length;
+
+static void lend(const uint32_t *list, size_t length)
+{
+    memset(list_room, 0x77, sizeof list_room);
+    memcpy(list_room + 1, list, length * sizeof *list);
+    memcpy(was_list, list_room, sizeof list_room);
+    days = list_room + 1;
+    days_length = length;
+}
+
+static void lend_none(void)
+{
+    days = NULL;
+    days_length = 0;
+}
+
+/* A list of one day. */
+static void lend_day(uint32_t day) { lend(&day, 1); }
+
+/* Day 181 of so many years, from 1950 on. */
+static void lend_many(size_t length)
+{
+    uint32_t list[MOST_DAYS + 1];
+    for (size_t i = 0; i < length; i++)
+        list[i] = (uint32_t)(1950 + i) * 1000 + 181;
+    lend(list, length);
+}
+
+static int list_is_kept(void) { return memcmp(list_room, was_list, sizeof list_room) == 0; }
+
+/* Makes the call with each list that is refused: a number that is no day, or would be one in fewer bits; a day that equals the one before
+ * it, lies before that or is impossible, at every place of the longest list; one day too many. */
+static void with_bad_lists(void (*call)(void))
+{
+    static const uint32_t no_days[] = {
+        0, 1000, 2016000, 2015366, 2016367, 2016999, 1900366, 9999366, 10000001, 65536000 + 2016366, 0x80000000u + 2016366, UINT32_MAX,
+    };
+    for (size_t i = 0; i < sizeof no_days / sizeof *no_days; i++) {
+        lend_day(no_days[i]);
+        call();
+    }
+    for (size_t i = 0; i < MOST_DAYS; i++)
+        for (unsigned way = i ? 0 : 2; way < 3; way++) {
+            lend_many(MOST_DAYS);
+            days[i] = way == 2 ? days[i] + 186 : days[i - 1] - way;
+            memcpy(was_list, list_room, sizeof list_room);
+            call();
+        }
+    lend_many(MOST_DAYS + 1);
+    call();
+    lend_none();
+}
+
 /* ---- tags ----------------------------------------------------------------------------------------------------------------------- */
 
 static const uint8_t day_60[9] = {0x20, 0x08, 0x06, 0x02, 0x35, 0x95, 0x99, 0x99, 0x00};
@@ -587,16 +647,104 @@ static const uint8_t day_61[8] = {0x20, 0x08, 0x06, 0x10, 0x00, 0x00, 0x00, 0x00
 static const uint8_t marked_tag[8] = {0x19, 0x87, 0xA3, 0x42, 0x14, 0x35, 0x67, 0x89};
 static const uint32_t marked_time[7] = {1987, 234, 21, 43, 56, 789, 1};
 
+/* A time and its tag, digit by digit, at the end of a leap day and elsewhere. */
+static uint32_t time_here[7];
+static uint8_t tag_here[8];
+
+static void at_time(uint32_t year, uint32_t day, uint32_t hour, uint32_t minute, uint32_t second, uint32_t ms)
+{
+    const uint32_t numbers[6] = {year, day, hour, minute, second, ms};
+    static const unsigned digits[6] = {4, 3, 2, 2, 2, 3};
+    unsigned end = 0;
+    memset(tag_here, 0, sizeof tag_here);
+    memset(time_here, 0, sizeof time_here);
+    for (int i = 0; i < 6; i++) {
+        uint32_t rest = time_here[i] = numbers[i];
+        end += digits[i];
+        for (unsigned k = 1; k <= digits[i]; k++, rest /= 10)
+            tag_here[(end - k) / 2] = (uint8_t)(tag_here[(end - k) / 2] | rest % 10 << ((end - k) % 2 ? 0 : 4));
+    }
+}
+
+/* Reads that tag by the days that are lent, and writes it; the answer of both. */
+static unsigned read_and_written(void)
+{
+    fresh();
+    unsigned number = rahmisve_read_tag(tag_here, 8, days, days_length, at.time + 1);
+    IS(number == 0 ? memcmp(at.time + 1, time_here, 28) == 0 : zeros(at.time + 1, 28));
+    IS(rahmisve_write_tag(time_here, days, days_length, at.tag + 1) == number);
+    IS(number == 0 ? memcmp(at.tag + 1, tag_here, 8) == 0 : zeros(at.tag + 1, 8));
+    IS(ones(at.time, 4) && ones(at.time + 8, 4) && at.tag[0] == 0xFF && at.tag[9] == 0xFF);
+    IS(days_length == 0 || list_is_kept());
+    return number;
+}
+
+static void leap_seconds(void)
+{
+    static const uint32_t three[] = {2008366, 2015181, 2016366};
+    lend(three, 3);
+    for (uint32_t ms = 0; ms < 1000; ms += 333) {
+        at_time(2016, 366, 23, 59, 60, ms);
+        IS(read_and_written() == 0);
+    }
+    for (uint32_t minute = 0; minute < 24 * 60; minute++) {
+        at_time(2015, 181, minute / 60, minute % 60, 60, 999);
+        IS(read_and_written() == (minute == 24 * 60 - 1 ? 0 : RAHMISVE_ANSWER_BAD_TAG));
+    }
+    at_time(2016, 366, 23, 59, 61, 0);
+    IS(read_and_written() == RAHMISVE_ANSWER_BAD_TAG);
+    for (uint32_t day = 1; day <= 366; day++) {
+        at_time(2016, day, 23, 59, 60, 0);
+        IS(read_and_written() == (day == 366 ? 0 : RAHMISVE_ANSWER_BAD_TAG));
+    }
+    told("leap seconds: second 60 is good at 23:59 of a listed day, and at no other minute and on no other day");
+    at_time(2016, 366, 23, 59, 60, 999);
+    lend_none();
+    IS(read_and_written() == RAHMISVE_ANSWER_BAD_TAG);
+    lend_day(2016365);
+    IS(read_and_written() == RAHMISVE_ANSWER_BAD_TAG);
+    lend(three, 2);
+    IS(read_and_written() == RAHMISVE_ANSWER_BAD_TAG);
+    told("leap seconds: by no list, and by one without the day, second 60 is refused");
+    for (uint32_t i = 0; i < MOST_DAYS; i++) {
+        lend_many(MOST_DAYS);
+        at_time(1950 + i, 181, 23, 59, 60, 7);
+        IS(read_and_written() == 0);
+        at_time(1950 + i, 182, 23, 59, 60, 7);
+        IS(read_and_written() == RAHMISVE_ANSWER_BAD_TAG);
+    }
+    static const uint32_t edges[] = {1, 366, 1365, 1600366, 2000366, 9996366, 9999365};
+    for (size_t i = 0; i < sizeof edges / sizeof *edges; i++) {
+        lend_day(edges[i]);
+        at_time(edges[i] / 1000, edges[i] % 1000, 23, 59, 60, 0);
+        IS(read_and_written() == 0);
+    }
+    lend_none();
+    told("leap seconds: each day of the longest list, and days at the edges of years");
+}
+
+static void read_by_a_bad_list(void)
+{
+    fresh();
+    IS(rahmisve_read_tag(day_60, 8, days, days_length, at.time + 1) == RAHMISVE_ANSWER_BAD_LEAP_DAYS);
+    IS(rahmisve_read_tag(day_60, 7, days, days_length, at.time + 1) == RAHMISVE_ANSWER_BAD_LEAP_DAYS);
+    IS(rahmisve_read_tag(NULL, 0, days, days_length, at.time + 1) == RAHMISVE_ANSWER_BAD_LEAP_DAYS);
+    IS(rahmisve_read_tag(bytes_there, 8, days, days_length, at.time + 1) == RAHMISVE_ANSWER_BAD_LEAP_DAYS);
+    IS(zeros(at.time + 1, 28) && ones(at.time, 4) && ones(at.time + 8, 4) && list_is_kept());
+}
+
 static void read_tag(void)
 {
     static const uint32_t time_60[7] = {2008, 60, 23, 59, 59, 999, 0};
     fresh();
-    IS(rahmisve_read_tag(marked_tag, 8, at.time + 1) == 0 && memcmp(at.time + 1, marked_time, 28) == 0);
+    IS(rahmisve_read_tag(marked_tag, 8, NULL, 0, at.time + 1) == 0 && memcmp(at.time + 1, marked_time, 28) == 0);
     IS(ones(at.time, 4) && ones(at.time + 8, 4));
     IS(at.time[1 + RAHMISVE_TIME_YEAR] == 1987 && at.time[1 + RAHMISVE_TIME_DAY] == 234 && at.time[1 + RAHMISVE_TIME_HOUR] == 21);
     IS(at.time[1 + RAHMISVE_TIME_MINUTE] == 43 && at.time[1 + RAHMISVE_TIME_SECOND] == 56 && at.time[1 + RAHMISVE_TIME_MILLISECOND] == 789);
     IS(at.time[1 + RAHMISVE_TIME_FLYWHEEL] == 1);
-    IS(rahmisve_read_tag(day_60, 8, at.time + 1) == 0 && memcmp(at.time + 1, time_60, 28) == 0);
+    IS(rahmisve_read_tag(day_60, 8, NULL, 0, at.time + 1) == 0 && memcmp(at.time + 1, time_60, 28) == 0);
+    lend_many(MOST_DAYS);
+    IS(rahmisve_read_tag(day_60, 8, days, days_length, at.time + 1) == 0 && memcmp(at.time + 1, time_60, 28) == 0 && list_is_kept());
     told("read_tag: seven numbers, each in its place");
     uint8_t bad[8];
     memcpy(bad, day_60, 8);
@@ -604,26 +752,38 @@ static void read_tag(void)
     static const size_t lengths[] = {7, 9, 0};
     for (int i = 0; i < 3; i++) {
         fresh();
-        IS(rahmisve_read_tag(lengths[i] ? day_60 : NULL, lengths[i], at.time + 1) == RAHMISVE_ANSWER_BAD_TAG);
+        IS(rahmisve_read_tag(lengths[i] ? day_60 : NULL, lengths[i], days, days_length, at.time + 1) == RAHMISVE_ANSWER_BAD_TAG);
         IS(zeros(at.time + 1, 28) && ones(at.time, 4) && ones(at.time + 8, 4));
     }
     fresh();
-    IS(rahmisve_read_tag(bad, 8, at.time + 1) == RAHMISVE_ANSWER_BAD_TAG && zeros(at.time + 1, 28));
-    told("read_tag: its refusal gives zeros");
+    IS(rahmisve_read_tag(bad, 8, days, days_length, at.time + 1) == RAHMISVE_ANSWER_BAD_TAG && zeros(at.time + 1, 28));
+    memset(bytes_there, 0xFF, 8);
+    with_bad_lists(read_by_a_bad_list);
+    told("read_tag: its refusals give zeros, and that of the list comes first");
+}
+
+static void written_by_a_bad_list(void)
+{
+    static const uint32_t bad_year[7] = {10000, 60, 23, 59, 59, 999, 0};
+    fresh();
+    IS(rahmisve_write_tag(marked_time, days, days_length, at.tag + 1) == RAHMISVE_ANSWER_BAD_LEAP_DAYS);
+    IS(rahmisve_write_tag(bad_year, days, days_length, at.tag + 1) == RAHMISVE_ANSWER_BAD_LEAP_DAYS);
+    IS(zeros(at.tag + 1, 8) && at.tag[0] == 0xFF && at.tag[9] == 0xFF && list_is_kept());
 }
 
 static void write_tag(void)
 {
     fresh();
-    IS(rahmisve_write_tag(marked_time, at.tag + 1) == 0 && memcmp(at.tag + 1, marked_tag, 8) == 0);
+    IS(rahmisve_write_tag(marked_time, NULL, 0, at.tag + 1) == 0 && memcmp(at.tag + 1, marked_tag, 8) == 0);
     IS(at.tag[0] == 0xFF && at.tag[9] == 0xFF);
+    lend_many(MOST_DAYS);
     static const uint32_t marks[] = {2, 256, 65536, 0x80000000u};
     for (int i = 0; i < 4; i++) {
         uint32_t t[7];
         memcpy(t, marked_time, sizeof t);
         t[RAHMISVE_TIME_FLYWHEEL] = marks[i];
         fresh();
-        IS(rahmisve_write_tag(t, at.tag + 1) == 0 && memcmp(at.tag + 1, marked_tag, 8) == 0);
+        IS(rahmisve_write_tag(t, days, days_length, at.tag + 1) == 0 && memcmp(at.tag + 1, marked_tag, 8) == 0 && list_is_kept());
     }
     told("write_tag: seven numbers, each in its place, and any number is a mark but 0");
     static const uint32_t over[6] = {10000, 366, 24, 60, 60, 1000};
@@ -633,37 +793,98 @@ static void write_tag(void)
             memcpy(t, marked_time, sizeof t);
             t[place] = way == 0 ? over[place] : way == 1 ? t[place] + 256u * 256u : way == 2 ? t[place] | 0x80000000u : 0xFFFFFFFFu;
             fresh();
-            IS(rahmisve_write_tag(t, at.tag + 1) == RAHMISVE_ANSWER_BAD_TAG);
+            IS(rahmisve_write_tag(t, days, days_length, at.tag + 1) == RAHMISVE_ANSWER_BAD_TAG);
             IS(zeros(at.tag + 1, 8) && at.tag[0] == 0xFF && at.tag[9] == 0xFF);
             if (place >= 2 && place <= 4) {
                 t[place] = marked_time[place] + 256;
-                IS(rahmisve_write_tag(t, at.tag + 1) == RAHMISVE_ANSWER_BAD_TAG);
+                IS(rahmisve_write_tag(t, days, days_length, at.tag + 1) == RAHMISVE_ANSWER_BAD_TAG);
             }
         }
-    told("write_tag: its refusals, of numbers too large for any tag too, give zeros");
+    static const uint32_t looks_leap[][7] = {{2016, 366, 23, 59, 256 + 60, 0, 0}, {65536 + 2016, 366, 23, 59, 60, 0, 0},
+                                             {2016, 65536 + 366, 23, 59, 60, 0, 0}, {2016, 366, 256 + 23, 59, 60, 0, 0},
+                                             {2016, 366, 23, 256 + 59, 60, 0, 0},   {2015, 1366, 23, 59, 60, 0, 0}};
+    lend_day(2016366);
+    for (size_t i = 0; i < sizeof looks_leap / sizeof *looks_leap; i++)
+        IS(rahmisve_write_tag(looks_leap[i], days, days_length, at.tag + 1) == RAHMISVE_ANSWER_BAD_TAG && zeros(at.tag + 1, 8));
+    with_bad_lists(written_by_a_bad_list);
+    told("write_tag: its refusals, of numbers too large for any tag too, give zeros, and that of the list comes first");
+}
+
+/* The time between two tags, both ways, by the days that are lent. */
+static void apart(const uint8_t *from, const uint8_t *to, int64_t ms)
+{
+    fresh();
+    at.ms[1] = 0;
+    IS(rahmisve_elapsed(from, 8, to, 8, days, days_length, &at.ms[1]) == 0 && at.ms[1] == ms);
+    IS(rahmisve_elapsed(to, 8, from, 8, days, days_length, &at.ms[1]) == 0 && at.ms[1] == -ms);
+    IS(at.ms[0] == -1 && at.ms[2] == -1 && (days_length == 0 || list_is_kept()));
+}
+
+static void elapsed_by_a_bad_list(void)
+{
+    static const size_t lengths[][2] = {{8, 8}, {7, 8}, {8, 9}, {0, 0}};
+    for (int i = 0; i < 4; i++) {
+        fresh();
+        size_t from = lengths[i][0], to = lengths[i][1];
+        IS(rahmisve_elapsed(from ? day_60 : NULL, from, to ? day_61 : NULL, to, days, days_length, &at.ms[1]) ==
+           RAHMISVE_ANSWER_BAD_LEAP_DAYS);
+        IS(at.ms[0] == -1 && at.ms[1] == 0 && at.ms[2] == -1 && list_is_kept());
+    }
 }
 
 static void elapsed(void)
 {
     static const uint8_t first[8] = {0x00, 0x00, 0x00, 0x10, 0x00, 0x00, 0x00, 0x00};
     static const uint8_t last[8] = {0x99, 0x99, 0x36, 0x52, 0x35, 0x95, 0x99, 0x99};
-    fresh();
-    IS(rahmisve_elapsed(day_60, 8, day_61, 8, &at.ms[1]) == 0 && at.ms[1] == 1);
-    IS(at.ms[0] == -1 && at.ms[2] == -1);
-    at.ms[1] = 0;
-    IS(rahmisve_elapsed(day_61, 8, day_60, 8, &at.ms[1]) == 0 && at.ms[1] == -1);
-    IS(rahmisve_elapsed(day_60, 8, day_60, 8, &at.ms[1]) == 0 && at.ms[1] == 0);
-    IS(rahmisve_elapsed(first, 8, last, 8, &at.ms[1]) == 0 && at.ms[1] == INT64_C(3652425) * 86400000 - 1);
-    IS(rahmisve_elapsed(last, 8, first, 8, &at.ms[1]) == 0 && at.ms[1] == 1 - INT64_C(3652425) * 86400000);
+    lend_none();
+    apart(day_60, day_61, 1);
+    apart(day_60, day_60, 0);
+    apart(first, last, INT64_C(3652425) * 86400000 - 1);
     told("elapsed: forward, backward, none, and over ten thousand years");
+
+    static const uint32_t bare[] = {2015181, 2016366};
+    static const uint8_t ends[8] = {0x20, 0x16, 0x36, 0x62, 0x35, 0x95, 0x90, 0x00}; /* 23:59:59.000 of 2016 day 366 */
+    static const uint8_t leap[8] = {0x20, 0x16, 0x36, 0x62, 0x35, 0x96, 0x00, 0x00}; /* a second later */
+    static const uint8_t over[8] = {0x20, 0x16, 0x36, 0x62, 0x35, 0x96, 0x09, 0x99};
+    static const uint8_t next[8] = {0x20, 0x17, 0x00, 0x10, 0x00, 0x00, 0x00, 0x00};
+    static const uint8_t morning[8] = {0x20, 0x16, 0x36, 0x60, 0x00, 0x00, 0x00, 0x00};
+    apart(ends, next, 1000);
+    lend_day(2016365);
+    apart(ends, next, 1000);
+    lend(bare, 2);
+    apart(ends, leap, 1000);
+    apart(leap, next, 1000);
+    apart(over, next, 1);
+    apart(ends, next, 2000);
+    apart(morning, ends, 86399000);
+    apart(morning, next, 86401000);
+    apart(day_60, next, INT64_C(3228) * 86400000 + 2001);
+    told("elapsed: a listed day has a second more, which no time on the day itself counts, and a day that is not listed has none");
+    lend_many(MOST_DAYS);
+    apart(first, last, INT64_C(3652425) * 86400000 - 1 + 64 * 1000);
+    apart(day_60, day_61, 1);
+    at_time(1980, 181, 23, 59, 60, 0);
+    uint8_t thirtieth[8];
+    memcpy(thirtieth, tag_here, 8);
+    at_time(1990, 181, 23, 59, 60, 0);
+    apart(thirtieth, tag_here, INT64_C(3653) * 86400000 + 10 * 1000);
+    told("elapsed: the longest list counts, each day of it once");
+
     static const size_t lengths[][2] = {{7, 8}, {8, 7}, {9, 8}, {0, 8}, {8, 0}, {0, 0}};
     for (int i = 0; i < 6; i++) {
         fresh();
         size_t from = lengths[i][0], to = lengths[i][1];
-        IS(rahmisve_elapsed(from ? day_60 : NULL, from, to ? day_61 : NULL, to, &at.ms[1]) == RAHMISVE_ANSWER_BAD_TAG);
+        IS(rahmisve_elapsed(from ? day_60 : NULL, from, to ? day_61 : NULL, to, days, days_length, &at.ms[1]) == RAHMISVE_ANSWER_BAD_TAG);
         IS(at.ms[0] == -1 && at.ms[1] == 0 && at.ms[2] == -1);
     }
-    told("elapsed: its refusals give zero");
+    lend_day(2015181);
+    for (int i = 0; i < 2; i++) {
+        fresh();
+        IS(rahmisve_elapsed(i ? ends : leap, 8, i ? leap : ends, 8, days, days_length, &at.ms[1]) == RAHMISVE_ANSWER_BAD_TAG);
+        IS(at.ms[0] == -1 && at.ms[1] == 0 && at.ms[2] == -1);
+    }
+    with_bad_lists(elapsed_by_a_bad_list);
+    told("elapsed: its refusals give zero, and that of the list comes first");
 }
 
 /* ---- the watch ------------------------------------------------------------------------------------------------------------------ */
@@ -673,8 +894,8 @@ static uint32_t watch_room[12], *const watch = watch_room + 1;
 static unsigned offered(uint32_t block, const uint8_t *tag, size_t length)
 {
     fresh();
-    unsigned number = rahmisve_watch_offer(watch, block, tag, length, &at.byte[1]);
-    IS(at.byte[0] == 0xFF && at.byte[2] == 0xFF);
+    unsigned number = rahmisve_watch_offer(watch, block, tag, length, days, days_length, &at.byte[1]);
+    IS(at.byte[0] == 0xFF && at.byte[2] == 0xFF && (days_length == 0 || list_is_kept()));
     IS(watch_room[0] == 0xABCDEF01 && watch_room[11] == 0xABCDEF02);
     return number;
 }
@@ -684,7 +905,7 @@ static void goes(uint32_t block, const uint8_t *tag, unsigned verdict, uint32_t 
 {
     uint32_t time[7] = {0, 0, 0, 0, 0, 0, 0};
     if (open)
-        IS(rahmisve_read_tag(tag, 8, time) == 0);
+        IS(rahmisve_read_tag(tag, 8, days, days_length, time) == 0);
     IS(offered(block, tag, 8) == 0 && at.byte[1] == verdict);
     IS(watch[RAHMISVE_WATCH_OPEN] == open && watch[RAHMISVE_WATCH_EXPECTED] == expected && watch[RAHMISVE_WATCH_LIMIT] == limit);
     IS(memcmp(watch + RAHMISVE_WATCH_LAST, time, 28) == 0);
@@ -781,6 +1002,81 @@ static void watch_offer(void)
     lent(0, 0, odd, UINT32_MAX);
     stays(RAHMISVE_ANSWER_LONG_LIMIT, 0, 0, day_61, 8);
     told("watch_offer: its refusals leave the record to the bit");
+}
+
+/* Blocks 0 to 10 of a scan, 200 ms apart, from 23:59:59.000 of 2016 day 366 to the next midnight, over the leap second. */
+static void at_leap(uint32_t block)
+{
+    if (block < 10)
+        at_time(2016, 366, 23, 59, 59 + block / 5, block % 5 * 200);
+    else
+        at_time(2017, 1, 0, 0, 0, 0);
+}
+
+static void scan_over_a_leap_second(void)
+{
+    static const uint32_t three[] = {2008366, 2015181, 2016366};
+    IS(rahmisve_watch_begin(200, watch) == 0);
+    lend(three, 3);
+    for (uint32_t block = 0; block <= 10; block++) {
+        unsigned verdict = block == 0 ? RAHMISVE_VERDICT_OPENED : block == 10 ? RAHMISVE_VERDICT_COMPLETE : RAHMISVE_VERDICT_KEPT;
+        at_leap(block);
+        goes(block, tag_here, verdict, block < 10, block < 10 ? block + 1 : 0, 200);
+    }
+    told("watch_offer: a scan over a leap second is complete, in its true time");
+
+    static const uint32_t no_leap[7] = {2016, 366, 23, 59, 59, 800, 0};
+    lent(1, 5, no_leap, 200);
+    at_leap(5);
+    lend_none();
+    stays(RAHMISVE_ANSWER_BAD_TAG, 0, 5, tag_here, 8);
+    lend(three, 2);
+    stays(RAHMISVE_ANSWER_BAD_TAG, 0, 5, tag_here, 8);
+    lend(three, 3);
+    goes(5, tag_here, RAHMISVE_VERDICT_KEPT, 1, 6, 200);
+    at_leap(6);
+    lend(three, 2);
+    stays(RAHMISVE_ANSWER_BAD_TAG, 0, 6, tag_here, 8);
+    stays(RAHMISVE_ANSWER_BAD_TAG, 0, 6, day_61, 8);
+    stays(RAHMISVE_ANSWER_BAD_TAG, 0, 99, day_61, 8);
+    lend(three, 3);
+    goes(6, tag_here, RAHMISVE_VERDICT_KEPT, 1, 7, 200);
+    at_leap(10);
+    lent(1, 5, no_leap, 1199);
+    goes(5, tag_here, RAHMISVE_VERDICT_LATE, 0, 0, 1199);
+    lent(1, 5, no_leap, 1200);
+    goes(5, tag_here, RAHMISVE_VERDICT_KEPT, 1, 6, 1200);
+    lent(1, 5, no_leap, 200);
+    lend_none();
+    goes(5, tag_here, RAHMISVE_VERDICT_KEPT, 1, 6, 200);
+    told("watch_offer: the list that is lent now judges and counts the last tag and the offered one");
+}
+
+/* In the order of the refusals: limit and expected block, then the list, then the rest. */
+static void offered_by_a_bad_list(void)
+{
+    static const uint32_t bad_hour[7] = {2008, 60, 24, 59, 59, 999, 0};
+    lent(1, 11, bad_hour, 3600001);
+    stays(RAHMISVE_ANSWER_LONG_LIMIT, 0, 99, day_60, 7);
+    lent(1, 11, bad_hour, 500);
+    stays(RAHMISVE_ANSWER_NO_RECORD, 0, 99, day_60, 7);
+    lent(1, 3, bad_hour, 500);
+    stays(RAHMISVE_ANSWER_BAD_LEAP_DAYS, 0, 99, day_60, 7);
+    lent(1, 3, marked_time, 500);
+    stays(RAHMISVE_ANSWER_BAD_LEAP_DAYS, 0, 99, NULL, 0);
+    stays(RAHMISVE_ANSWER_BAD_LEAP_DAYS, 0, 3, marked_tag, 8);
+    lent(0, 11, bad_hour, 3600001);
+    stays(RAHMISVE_ANSWER_LONG_LIMIT, 0, 99, day_60, 7);
+    lent(0, 11, bad_hour, 500);
+    stays(RAHMISVE_ANSWER_BAD_LEAP_DAYS, 0, 99, day_60, 7);
+    stays(RAHMISVE_ANSWER_BAD_LEAP_DAYS, 0, 0, day_60, 8);
+    stays(RAHMISVE_ANSWER_BAD_LEAP_DAYS, 0, 5, day_60, 8);
+}
+
+static void offers_by_bad_lists(void)
+{
+    with_bad_lists(offered_by_a_bad_list);
+    told("watch_offer: a bad list is refused behind limit and expected block, before all else, by an open watch and by an idle one");
 }
 
 /* ---- recordings ----------------------------------------------------------------------------------------------------------------- */
@@ -1168,9 +1464,12 @@ int main(void)
     parity();
     read_tag();
     write_tag();
+    leap_seconds();
     elapsed();
     watch_begin();
     watch_offer();
+    scan_over_a_leap_second();
+    offers_by_bad_lists();
     next_field();
     line();
     texts();

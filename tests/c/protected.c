@@ -13,8 +13,10 @@ enum { PAGE_BYTES = 65536 }; /* a multiple of any machine's page */
 static const uint32_t idle[RAHMISVE_WATCH_NUMBERS] = {0, 99, 1, 2, 3, 4, 5, 6, 7, 500};
 static const uint32_t open[RAHMISVE_WATCH_NUMBERS] = {1, 3, 2008, 60, 23, 59, 59, 999, 0, 500};
 static const uint8_t tag[RAHMISVE_TAG_BYTES] = {0x20, 0x08, 0x06, 0x10, 0x00, 0x00, 0x00, 0x00};
+static const uint32_t leap_days[] = {2008366, 2008366}; /* one is a good list, both are none */
 
 static uint32_t *watch;
+static size_t days = 1;
 static int all_good = 1;
 
 /* The watch has these numbers but for one, and from here on nothing may write it. */
@@ -30,7 +32,7 @@ static int hold(const uint32_t *numbers, size_t place, uint32_t number)
 static int offered(unsigned answer, unsigned verdict, uint32_t block, size_t tag_length)
 {
     uint8_t did;
-    return rahmisve_watch_offer(watch, block, tag, tag_length, &did) == answer && did == verdict;
+    return rahmisve_watch_offer(watch, block, tag, tag_length, leap_days, days, &did) == answer && did == verdict;
 }
 
 static void told(int good, const char *what)
@@ -55,6 +57,12 @@ static void not_written(void)
     good = good && hold(open, RAHMISVE_WATCH_LAST + RAHMISVE_TIME_HOUR, 24) &&
            offered(RAHMISVE_ANSWER_BAD_TAG, RAHMISVE_VERDICT_REFUSED, 3, RAHMISVE_TAG_BYTES);
     told(good, "an offer refused for the watch");
+    days = 2;
+    good = hold(idle, RAHMISVE_WATCH_OPEN, 0) &&
+           offered(RAHMISVE_ANSWER_BAD_LEAP_DAYS, RAHMISVE_VERDICT_REFUSED, 0, RAHMISVE_TAG_BYTES);
+    good = good && hold(open, RAHMISVE_WATCH_OPEN, 1) &&
+           offered(RAHMISVE_ANSWER_BAD_LEAP_DAYS, RAHMISVE_VERDICT_REFUSED, 3, RAHMISVE_TAG_BYTES);
+    told(good, "an offer refused for its leap days");
 }
 
 int main(int argc, char **argv)

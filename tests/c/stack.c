@@ -11,7 +11,7 @@ static uint8_t header[RAHMISVE_HEADER_BYTES], common[RAHMISVE_HEADER_BYTES], cop
 static uint8_t one[4], text[RAHMISVE_LINE_BYTES], holds[RAHMISVE_IMAGER_MARKS], tag[RAHMISVE_TAG_BYTES], field[RAHMISVE_MOST_BYTES];
 static uint8_t recording[RAHMISVE_SALVAGE_BYTES(sizeof block)];
 static uint16_t words[RAHMISVE_MOST_WORDS];
-static uint32_t time[RAHMISVE_TIME_NUMBERS], watch[RAHMISVE_WATCH_NUMBERS];
+static uint32_t time[RAHMISVE_TIME_NUMBERS], watch[RAHMISVE_WATCH_NUMBERS], days[RAHMISVE_MOST_LEAP_DAYS];
 static size_t bytes, count[3], report[RAHMISVE_SALVAGE_ENTRIES(sizeof block)][RAHMISVE_ENTRY_NUMBERS];
 static uint64_t seq;
 static int64_t ms;
@@ -25,11 +25,14 @@ static uint8_t record(void) { return rahmisve_record(header, sizeof header, 68, 
 static uint8_t place(void) { return rahmisve_place(1, 2, 3, one, one + 1); }
 static uint8_t parity_imager(void) { return rahmisve_parity_imager(words, RAHMISVE_PARITY_WORDS, holds); }
 static uint8_t parity_sounder(void) { return rahmisve_parity_sounder(words, RAHMISVE_PARITY_WORDS, holds); }
-static uint8_t write_tag(void) { return rahmisve_write_tag(time, tag); }
-static uint8_t read_tag(void) { return rahmisve_read_tag(tag, sizeof tag, time); }
-static uint8_t elapsed(void) { return rahmisve_elapsed(tag, sizeof tag, tag, sizeof tag, &ms); }
+static uint8_t write_tag(void) { return rahmisve_write_tag(time, days, RAHMISVE_MOST_LEAP_DAYS, tag); }
+static uint8_t read_tag(void) { return rahmisve_read_tag(tag, sizeof tag, days, RAHMISVE_MOST_LEAP_DAYS, time); }
+static uint8_t elapsed(void) { return rahmisve_elapsed(tag, sizeof tag, tag, sizeof tag, days, RAHMISVE_MOST_LEAP_DAYS, &ms); }
 static uint8_t watch_begin(void) { return rahmisve_watch_begin(500, watch); }
-static uint8_t watch_offer(void) { return rahmisve_watch_offer(watch, watch[RAHMISVE_WATCH_EXPECTED], tag, sizeof tag, one); }
+static uint8_t watch_offer(void)
+{
+    return rahmisve_watch_offer(watch, watch[RAHMISVE_WATCH_EXPECTED], tag, sizeof tag, days, RAHMISVE_MOST_LEAP_DAYS, one);
+}
 static uint8_t next_field(void) { return rahmisve_next_field(block, bytes, 0, one, count, count + 1) == RAHMISVE_FOUND_END; }
 static uint8_t line(void) { return rahmisve_line(0, 1, block, bytes, words, RAHMISVE_MOST_WORDS, &seq, one, one + 1, count); }
 static uint8_t first_text(void) { return rahmisve_first_text(text, sizeof text, count); }
@@ -75,7 +78,14 @@ int main(void)
     header[RAHMISVE_HEADER_ID] = 1;
     header[RAHMISVE_HEADER_SIZE] = 10;
     header[RAHMISVE_HEADER_COUNT + 1] = 68 + RAHMISVE_EXTRA_WORDS;
-    time[RAHMISVE_TIME_DAY] = 1;
+    for (uint32_t i = 0; i < RAHMISVE_MOST_LEAP_DAYS; i++)
+        days[i] = (1950 + i) * 1000 + 181;
+    /* the last of them, and its last second */
+    time[RAHMISVE_TIME_YEAR] = 1949 + RAHMISVE_MOST_LEAP_DAYS;
+    time[RAHMISVE_TIME_DAY] = 181;
+    time[RAHMISVE_TIME_HOUR] = 23;
+    time[RAHMISVE_TIME_MINUTE] = 59;
+    time[RAHMISVE_TIME_SECOND] = 60;
     for (size_t i = 0; i < sizeof calls / sizeof *calls; i++) {
         /* once beforehand, so that what is bound on first use is bound; then with two paints, as a byte may have the colour of one */
         if (calls[i].call() != 0) {

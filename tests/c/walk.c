@@ -291,7 +291,7 @@ static void step_time(void)
     int64_t ms;
 
     memcpy(tag, header + RAHMISVE_HEADER_TIME, sizeof tag);
-    rahmisve_read_tag(tag, sizeof tag, time);
+    rahmisve_read_tag(tag, sizeof tag, NULL, 0, time);
     printf("== 11\nwords %d to %d: ", RAHMISVE_HEADER_TIME + 1, RAHMISVE_HEADER_TIME + RAHMISVE_TAG_BYTES);
     print_bytes(tag, sizeof tag);
     printf("\n%u day %u, ", (unsigned)time[RAHMISVE_TIME_YEAR], (unsigned)time[RAHMISVE_TIME_DAY]);
@@ -299,19 +299,19 @@ static void step_time(void)
            (unsigned)time[RAHMISVE_TIME_SECOND], (unsigned)time[RAHMISVE_TIME_MILLISECOND], time[RAHMISVE_TIME_FLYWHEEL] ? "on" : "off");
     midnight[RAHMISVE_TIME_YEAR] = time[RAHMISVE_TIME_YEAR];
     midnight[RAHMISVE_TIME_DAY] = time[RAHMISVE_TIME_DAY];
-    rahmisve_write_tag(midnight, begin);
-    rahmisve_elapsed(begin, sizeof begin, tag, sizeof tag, &ms);
+    rahmisve_write_tag(midnight, NULL, 0, begin);
+    rahmisve_elapsed(begin, sizeof begin, tag, sizeof tag, NULL, 0, &ms);
     printf("from midnight of the same day: %ld ms\n", (long)ms);
-    rahmisve_elapsed(tag, sizeof tag, begin, sizeof begin, &ms);
+    rahmisve_elapsed(tag, sizeof tag, begin, sizeof begin, NULL, 0, &ms);
     printf("back to that midnight: %ld ms\n", (long)ms);
     tag[2] |= 0x80;
-    rahmisve_read_tag(tag, sizeof tag, time);
-    rahmisve_elapsed(header + RAHMISVE_HEADER_TIME, sizeof tag, tag, sizeof tag, &ms);
+    rahmisve_read_tag(tag, sizeof tag, NULL, 0, time);
+    rahmisve_elapsed(header + RAHMISVE_HEADER_TIME, sizeof tag, tag, sizeof tag, NULL, 0, &ms);
     printf("byte 3 as %02X: day %u, flywheel %s, %ld ms away\n", tag[2], (unsigned)time[RAHMISVE_TIME_DAY],
            time[RAHMISVE_TIME_FLYWHEEL] ? "on" : "off", (long)ms);
     tag[7] = 0x9A;
     printf("byte 8 as %02X: ", tag[7]);
-    tell(rahmisve_read_tag(tag, sizeof tag, time));
+    tell(rahmisve_read_tag(tag, sizeof tag, NULL, 0, time));
 }
 
 static void step_back(void)
