@@ -7,7 +7,10 @@ use std::fs::File;
 use std::io::{stdin, stdout, Read, Write};
 use std::process::ExitCode;
 
+use leap_days::LEAP_DAYS;
 use rahmisve::*;
+
+mod leap_days;
 
 /// The block, and a byte more where there is one, so that a longer file shows as too long.
 fn input() -> Result<Vec<u8>, String> {
@@ -38,14 +41,15 @@ fn print_records(plan: &Plan, header: &Header, words: &[u16], out: &mut impl Wri
 
 /// The time of the header's tag, and how long after midnight that is.
 fn print_time(tag: &[u8], out: &mut impl Write) -> Result<(), Box<dyn Error>> {
-    let time = match read_tag(tag) {
+    let time = match read_tag(tag, &LEAP_DAYS) {
         Ok(time) => time,
         Err(why) => return Ok(writeln!(out, "time: refused: {}, {}", why.number(), why.text())?),
     };
-    let midnight = write_tag(&Time { year: time.year, day: time.day, ..Time::default() })?;
+    let midnight = write_tag(&Time { year: time.year, day: time.day, ..Time::default() }, &LEAP_DAYS)?;
+    let ms = elapsed(&midnight, tag, &LEAP_DAYS)?;
     let Time { year, day, hour, minute, second, millisecond, flywheel } = time;
     write!(out, "time: {year} day {day}, {hour:02}:{minute:02}:{second:02}.{millisecond:03}")?;
-    writeln!(out, "{}, {} ms after midnight", if flywheel { " by flywheel" } else { "" }, elapsed(&midnight, tag)?)?;
+    writeln!(out, "{}, {ms} ms after midnight", if flywheel { " by flywheel" } else { "" })?;
     Ok(())
 }
 

@@ -6,7 +6,10 @@ use std::error::Error;
 use std::io::{stdin, stdout, Read, Write};
 use std::process::ExitCode;
 
+use leap_days::LEAP_DAYS;
 use rahmisve::*;
+
+mod leap_days;
 
 const WAIT_MS: u32 = 5_000;
 
@@ -42,8 +45,8 @@ fn offer(watch: &mut Watch, body: &[u8], room: &mut [u16]) -> Result<(u8, Time, 
     let header = read(body, room)?.header;
     let block = plan(&header)?.block;
     let tag = &header[HEADER_TIME..HEADER_TIME + TAG_BYTES];
-    let verdict = watch.offer(block.into(), tag)?;
-    Ok((block, read_tag(tag)?, verdict))
+    let verdict = watch.offer(block.into(), tag, &LEAP_DAYS)?;
+    Ok((block, read_tag(tag, &LEAP_DAYS)?, verdict))
 }
 
 fn run() -> Result<ExitCode, Box<dyn Error>> {

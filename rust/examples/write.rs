@@ -19,7 +19,8 @@ fn run() -> Result<(), Box<dyn Error>> {
     header[HEADER_COUNT..HEADER_COUNT + 2].copy_from_slice(&(WORDS as u16 + EXTRA_WORDS).to_be_bytes());
     header[HEADER_VERSION] = 2;
     header[HEADER_VALID] = 1;
-    header[HEADER_TIME..HEADER_TIME + TAG_BYTES].copy_from_slice(&write_tag(&time)?);
+    // second 59 needs no leap days
+    header[HEADER_TIME..HEADER_TIME + TAG_BYTES].copy_from_slice(&write_tag(&time, &[])?);
     let words: Vec<u16> = (0..WORDS).map(|i| (100 * (i / RECORD + 1) + i % RECORD) as u16).collect();
 
     let mut room = vec![0; MOST_BYTES];

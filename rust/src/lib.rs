@@ -33,6 +33,7 @@
 #![warn(missing_docs)]
 
 mod block;
+mod leap_day;
 mod parity;
 mod record;
 mod recording;
@@ -44,6 +45,7 @@ mod watch;
 mod words;
 
 pub use block::{plan, read, write, Header, Plan, Read};
+pub use leap_day::LeapDay;
 pub use parity::{parity_imager, parity_sounder};
 pub use record::{place, record, Place};
 pub use recording::{first_text, last_text, line, line_text, next_field, Field, Fields, Found, Line, Listed};
@@ -68,6 +70,8 @@ pub const MOST_BYTES: usize = 26_352;
 pub const LEAST_BYTES: usize = 2_772;
 /// Bytes of a time tag.
 pub const TAG_BYTES: usize = 8;
+/// How many leap days may be lent.
+pub const MOST_LEAP_DAYS: usize = 64;
 /// Words of line documentation in front of a record's pixels.
 pub const DOCUMENTATION_WORDS: usize = 16;
 /// Words of a block with parity sections.

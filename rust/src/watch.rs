@@ -4,7 +4,7 @@ use rahmisve_sys::{rahmisve_watch_begin, rahmisve_watch_offer};
 
 #[cfg(doc)]
 use crate::Refusal::*;
-use crate::{answer, Refusal, Time, WATCH_NUMBERS};
+use crate::{answer, LeapDay, Refusal, Time, WATCH_NUMBERS};
 
 /// What an accepted offer did.
 #[derive(Clone, Copy, Debug, PartialEq, Eq, Hash)]
@@ -29,11 +29,11 @@ pub enum Verdict {
 ///
 /// ```
 /// use rahmisve::*;
-/// let second = |second| write_tag(&Time { year: 2008, day: 60, second, ..Time::default() });
+/// let second = |second| write_tag(&Time { year: 2008, day: 60, second, ..Time::default() }, &[]);
 /// let mut watch = Watch::begin(10_000)?;
-/// assert_eq!(watch.offer(0, &second(5)?), Ok(Verdict::Opened));
-/// assert_eq!(watch.offer(1, &second(7)?), Ok(Verdict::Kept));
-/// assert_eq!(watch.offer(2, &second(6)?), Ok(Verdict::ClockBack));
+/// assert_eq!(watch.offer(0, &second(5)?, &[]), Ok(Verdict::Opened));
+/// assert_eq!(watch.offer(1, &second(7)?, &[]), Ok(Verdict::Kept));
+/// assert_eq!(watch.offer(2, &second(6)?, &[]), Ok(Verdict::ClockBack));
 /// assert!(!watch.is_open());
 /// # Ok::<(), Refusal>(())
 /// ```
@@ -59,29 +59,52 @@ impl Watch {
         answer(number, Watch(numbers))
     }
 
-    /// Offers a block and the bytes of its tag. A closing block 0 also opens a new scan: see
-    /// [`is_open`](Watch::is_open). Block 11 is no block of a scan: one that comes to an open watch in time is
-    /// [`Broken`](Verdict::Broken), and closes it.
+    /// Offers a block, the bytes of its tag and the [leap days](LeapDay) to count by. A closing block 0 also opens a
+    /// new scan: see [`is_open`](Watch::is_open). Block 11 is no block of a scan: one that comes to an open watch in
+    /// time is [`Broken`](Verdict::Broken), and closes it.
+    ///
+    /// The watch keeps no leap days: those of this offer judge and count its last tag too. Lend one list from block 0
+    /// to the end of a scan. With one list and one limit throughout, a scan that completes took at most ten times the
+    /// limit.
     ///
     /// # Errors
     ///
-    /// The first that holds of [`LongLimit`] (16), [`NoRecord`] (13) and [`BadTag`] (12) for the watch itself, which
-    /// only one made by [`of`](Watch::of) can be refused for, [`UnknownBlock`] (4) for the block, and [`BadTag`] (12)
-    /// for its tag. The watch is as it was.
+    /// The first that holds of [`LongLimit`] (16) and [`NoRecord`] (13) for the watch itself, [`BadLeapDays`] (19) for
+    /// the list, [`BadTag`] (12) for the watch's last tag, [`UnknownBlock`] (4) for the block, and [`BadTag`] (12) for
+    /// its tag. The watch is as it was. It is refused for itself only where [`of`](Watch::of) made it, or where its
+    /// last tag has second 60 and the list that is lent now does not have that day.
     ///
     /// ```
     /// use rahmisve::*;
     /// let mut watch = Watch::begin(1_000)?;
-    /// let tag = write_tag(&Time { year: 2008, day: 60, ..Time::default() })?;
-    /// assert_eq!(watch.offer(0, &tag), Ok(Verdict::Opened));
-    /// assert_eq!(watch.offer(12, &tag), Err(Refusal::UnknownBlock));
-    /// assert_eq!(watch.offer(11, &tag), Ok(Verdict::Broken));
+    /// let tag = write_tag(&Time { year: 2008, day: 60, ..Time::default() }, &[])?;
+    /// assert_eq!(watch.offer(0, &tag, &[]), Ok(Verdict::Opened));
+    /// assert_eq!(watch.offer(12, &tag, &[]), Err(Refusal::UnknownBlock));
+    /// assert_eq!(watch.offer(11, &tag, &[]), Ok(Verdict::Broken));
+    ///
+    /// // Over a leap second, which is in time.
+    /// let leap_days = [LeapDay::new(2008, 366)];
+    /// let leap = Time { year: 2008, day: 366, hour: 23, minute: 59, second: 60, ..Time::default() };
+    /// watch.offer(0, &write_tag(&leap, &leap_days)?, &leap_days)?;
+    /// let next = write_tag(&Time { year: 2009, day: 1, ..Time::default() }, &leap_days)?;
+    /// assert_eq!(watch.offer(1, &next, &[]), Err(Refusal::BadTag));
+    /// assert_eq!(watch.offer(1, &next, &leap_days), Ok(Verdict::Kept));
     /// # Ok::<(), Refusal>(())
     /// ```
-    pub fn offer(&mut self, block: u32, tag: &[u8]) -> Result<Verdict, Refusal> {
+    pub fn offer(&mut self, block: u32, tag: &[u8], leap_days: &[LeapDay]) -> Result<Verdict, Refusal> {
         let mut verdict = 0;
-        // SAFETY: as in `read`.
-        let number = unsafe { rahmisve_watch_offer(&mut self.0, block, tag.as_ptr(), tag.len(), &mut verdict) };
+        // SAFETY: as in `read_tag`.
+        let number = unsafe {
+            rahmisve_watch_offer(
+                &mut self.0,
+                block,
+                tag.as_ptr(),
+                tag.len(),
+                leap_days.as_ptr().cast(),
+                leap_days.len(),
+                &mut verdict,
+            )
+        };
         let did = match verdict {
             1 => Verdict::Stray,
             2 => Verdict::Opened,
@@ -113,7 +136,7 @@ impl Watch {
     /// use rahmisve::*;
     /// let mut watch = Watch::begin(1_000)?;
     /// assert_eq!(watch.expected(), None);
-    /// watch.offer(0, &write_tag(&Time { year: 2008, day: 60, ..Time::default() })?)?;
+    /// watch.offer(0, &write_tag(&Time { year: 2008, day: 60, ..Time::default() }, &[])?, &[])?;
     /// assert_eq!(watch.expected(), Some(1));
     /// # Ok::<(), Refusal>(())
     /// ```
@@ -128,7 +151,7 @@ impl Watch {
     /// use rahmisve::*;
     /// let time = Time { year: 2008, day: 60, ..Time::default() };
     /// let mut watch = Watch::begin(1_000)?;
-    /// watch.offer(0, &write_tag(&time)?)?;
+    /// watch.offer(0, &write_tag(&time, &[])?, &[])?;
     /// assert_eq!(watch.last(), Some(time));
     /// # Ok::<(), Refusal>(())
     /// ```

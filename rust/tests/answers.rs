@@ -154,59 +154,195 @@ fn parity() {
 #[test]
 fn tags() {
     let time = Time { year: 2008, day: 60, hour: 23, minute: 59, second: 59, millisecond: 999, flywheel: false };
-    assert_eq!(read_tag(&TAG), Ok(time));
-    assert_eq!(write_tag(&time), Ok(TAG));
-    let marked = write_tag(&Time { flywheel: true, ..time }).expect("a mark");
-    assert_eq!(marked[2], 0x86);
-    assert_eq!(elapsed(&TAG, &NEXT), Ok(1));
-    assert_eq!(elapsed(&NEXT, &marked), Ok(-1));
-    assert_eq!(elapsed(&TAG, &TAG), Ok(0));
-    assert_eq!(elapsed(&TAG, &TAG[1..]), Err(Refusal::BadTag));
-    assert_eq!(read_tag(&[]), Err(Refusal::BadTag));
-    for wrong in [
-        Time { year: 10_000, ..time },
-        Time { day: 0, ..time },
-        Time::default(),
-        Time { hour: 256 + 23, ..time },
-        Time { millisecond: 65_536, ..time },
-    ] {
-        assert_eq!(write_tag(&wrong), Err(Refusal::BadTag));
+    for leap_days in [&[][..], &many_days(MOST_LEAP_DAYS)] {
+        assert_eq!(read_tag(&TAG, leap_days), Ok(time));
+        assert_eq!(write_tag(&time, leap_days), Ok(TAG));
+        let marked = write_tag(&Time { flywheel: true, ..time }, leap_days).expect("a mark");
+        assert_eq!(marked[2], 0x86);
+        assert_eq!(elapsed(&TAG, &NEXT, leap_days), Ok(1));
+        assert_eq!(elapsed(&NEXT, &marked, leap_days), Ok(-1));
+        assert_eq!(elapsed(&TAG, &TAG, leap_days), Ok(0));
+        assert_eq!(elapsed(&TAG, &TAG[1..], leap_days), Err(Refusal::BadTag));
+        assert_eq!(read_tag(&[], leap_days), Err(Refusal::BadTag));
+        for wrong in [
+            Time { year: 10_000, ..time },
+            Time { day: 0, ..time },
+            Time::default(),
+            Time { hour: 256 + 23, ..time },
+            Time { second: 60, ..time },
+            Time { millisecond: 65_536, ..time },
+        ] {
+            assert_eq!(write_tag(&wrong, leap_days), Err(Refusal::BadTag));
+        }
     }
+}
+
+/// Day 181 of so many years, from 1950 on.
+fn many_days(count: usize) -> Vec<LeapDay> {
+    (1950..).map(|year| LeapDay::new(year, 181)).take(count).collect()
+}
+
+/// The last second of 2016 day 366, and the midnight that follows.
+const LEAP: Time = Time { year: 2016, day: 366, hour: 23, minute: 59, second: 60, millisecond: 0, flywheel: false };
+const AFTER: Time = Time { year: 2017, day: 1, hour: 0, minute: 0, second: 0, millisecond: 0, flywheel: false };
+const LISTED: [LeapDay; 3] = [LeapDay(2_008_366), LeapDay(2_015_181), LeapDay(2_016_366)];
+
+#[test]
+fn leap_seconds() {
+    let tag = |time| write_tag(&time, &LISTED).expect("a good time");
+    let last = tag(Time { millisecond: 999, ..LEAP });
+    assert_eq!(last, [0x20, 0x16, 0x36, 0x62, 0x35, 0x96, 0x09, 0x99]);
+    assert_eq!(read_tag(&last, &LISTED), Ok(Time { millisecond: 999, ..LEAP }));
+    assert_eq!(elapsed(&last, &tag(AFTER), &LISTED), Ok(1));
+    let before = tag(Time { second: 59, ..LEAP });
+    assert_eq!(elapsed(&before, &tag(LEAP), &LISTED), Ok(1_000));
+    assert_eq!(elapsed(&before, &tag(AFTER), &LISTED), Ok(2_000));
+    assert_eq!(elapsed(&tag(AFTER), &before, &LISTED), Ok(-2_000));
+    assert_eq!(elapsed(&before, &tag(AFTER), &LISTED[..2]), Ok(1_000));
+    assert_eq!(elapsed(&before, &tag(AFTER), &[]), Ok(1_000));
+    for leap_days in [&[][..], &LISTED[..2], &[LeapDay::new(2016, 365)]] {
+        assert_eq!(read_tag(&last, leap_days), Err(Refusal::BadTag));
+        assert_eq!(write_tag(&LEAP, leap_days), Err(Refusal::BadTag));
+        assert_eq!(elapsed(&before, &last, leap_days), Err(Refusal::BadTag));
+    }
+    for wrong in [
+        Time { second: 61, ..LEAP },
+        Time { minute: 58, ..LEAP },
+        Time { hour: 22, ..LEAP },
+        Time { day: 365, ..LEAP },
+        Time { year: 2012, ..LEAP },
+        Time { second: 256 + 60, ..LEAP },
+    ] {
+        assert_eq!(write_tag(&wrong, &LISTED), Err(Refusal::BadTag));
+    }
+    let days = many_days(MOST_LEAP_DAYS);
+    let new_year = |year| tag(Time { year, day: 1, ..AFTER });
+    assert_eq!(elapsed(&new_year(1950), &new_year(2014), &days), Ok(86_400_000 * 23_376 + 64_000));
+    assert!(days.iter().all(|day| write_tag(&Time { year: day.0 / 1_000, day: 181, ..LEAP }, &days).is_ok()));
+}
+
+/// Each kind of list that is refused. Cut to 32 bits, 4296983662 would be 2016366.
+fn bad_lists() -> Vec<Vec<LeapDay>> {
+    let pairs = [(2016, 0), (2015, 366), (1900, 366), (2016, 367), (2015, 1_366), (10_000, 1), (4_296_983, 662)];
+    let mut lists: Vec<_> = pairs.map(|(year, day)| vec![LeapDay::new(year, day)]).into();
+    lists.extend([0, 65_536_000 + 2_016_366, u32::MAX].map(|number| vec![LeapDay(number)]));
+    lists.push(vec![LISTED[0], LISTED[2], LISTED[2]]);
+    lists.push(vec![LISTED[0], LISTED[2], LISTED[1]]);
+    lists.push(many_days(MOST_LEAP_DAYS + 1));
+    lists
+}
+
+#[test]
+fn leap_days_are_judged_first() {
+    let mut idle = Watch::begin(500).expect("a limit of half a second");
+    let mut open = idle;
+    open.offer(0, &TAG, &[]).expect("block 0 opens");
+    let changed = |place: usize, number| {
+        let mut numbers = open.numbers();
+        numbers[place] = number;
+        Watch::of(numbers)
+    };
+    let (mut long_limit, mut no_record, mut bad_last) = (changed(9, 3_600_001), changed(1, 11), changed(4, 24));
+    for list in bad_lists() {
+        let refused = Refusal::BadLeapDays;
+        for tag in [&TAG[..], &TAG[1..], &[], &[0xFF; 8]] {
+            assert_eq!(read_tag(tag, &list), Err(refused), "{list:?}");
+            assert_eq!((elapsed(tag, &TAG, &list), elapsed(&TAG, tag, &list)), (Err(refused), Err(refused)));
+            for block in [0, 1, 12] {
+                let was = (idle, open);
+                assert_eq!(
+                    (idle.offer(block, tag, &list), open.offer(block, tag, &list)),
+                    (Err(refused), Err(refused))
+                );
+                assert_eq!((idle, open), was);
+            }
+        }
+        assert_eq!(write_tag(&LEAP, &list), Err(refused));
+        assert_eq!(write_tag(&Time::default(), &list), Err(refused));
+        assert_eq!(long_limit.offer(12, &[], &list), Err(Refusal::LongLimit));
+        assert_eq!(no_record.offer(12, &[], &list), Err(Refusal::NoRecord));
+        assert_eq!(bad_last.offer(12, &[], &list), Err(refused));
+        assert_eq!(bad_last.offer(12, &[], &LISTED), Err(Refusal::BadTag));
+    }
+}
+
+#[test]
+fn leap_days_and_their_numbers() {
+    assert_eq!(LeapDay::new(2016, 366), LISTED[2]);
+    assert_eq!((LeapDay::new(0, 1), LeapDay::new(9_999, 365)), (LeapDay(1), LeapDay(9_999_365)));
+    assert!(LISTED.is_sorted());
+    let first =
+        write_tag(&Time { year: 0, day: 366, hour: 23, minute: 59, second: 60, ..LEAP }, &[LeapDay::new(0, 366)]);
+    assert_eq!(first, Ok([0, 0, 0x36, 0x62, 0x35, 0x96, 0, 0]));
+}
+
+#[test]
+fn a_scan_over_a_leap_second() {
+    let mut watch = Watch::begin(200).expect("a limit of a fifth of a second");
+    // blocks 0 to 10, a fifth of a second apart, from 23:59:59 to the midnight that follows
+    let mut times: Vec<_> = (0..10).map(|k| Time { second: 59 + k / 5, millisecond: k % 5 * 200, ..LEAP }).collect();
+    times.push(AFTER);
+    for (block, time) in (0..).zip(&times) {
+        let tag = write_tag(time, &LISTED).expect("a good time");
+        let wanted = match block {
+            0 => Verdict::Opened,
+            10 => Verdict::Complete,
+            _ => Verdict::Kept,
+        };
+        if time.second == 60 {
+            assert_eq!(watch.offer(block, &tag, &[]), Err(Refusal::BadTag), "second 60 without its day");
+        }
+        assert_eq!(watch.offer(block, &tag, &LISTED), Ok(wanted));
+        assert_eq!(watch.last(), (block < 10).then_some(*time));
+    }
+
+    // the last tag is judged and counted by the list that is lent now
+    let after = write_tag(&AFTER, &[]).expect("a good time");
+    let mut numbers = watch.numbers();
+    numbers[..9].copy_from_slice(&[1, 5, 2016, 366, 23, 59, 60, 800, 0]);
+    watch = Watch::of(numbers);
+    assert_eq!(watch.offer(5, &after, &LISTED[..2]), Err(Refusal::BadTag));
+    assert_eq!(watch.offer(5, &after, &LISTED), Ok(Verdict::Kept));
+    numbers[6] = 59;
+    watch = Watch::of(numbers);
+    assert_eq!(watch.offer(5, &after, &LISTED), Ok(Verdict::Late));
+    watch = Watch::of(numbers);
+    assert_eq!(watch.offer(5, &after, &[]), Ok(Verdict::Kept));
 }
 
 #[test]
 fn a_scan_under_watch() {
     let mut watch = Watch::begin(500).expect("a limit of half a second");
     assert_eq!(Watch::begin(LONGEST_WAIT_MS + 1), Err(Refusal::LongLimit));
-    assert_eq!(watch.offer(4, &TAG), Ok(Verdict::Stray));
+    assert_eq!(watch.offer(4, &TAG, &[]), Ok(Verdict::Stray));
     assert_eq!((watch.is_open(), watch.expected(), watch.last()), (false, None, None));
-    assert_eq!(watch.offer(0, &TAG), Ok(Verdict::Opened));
+    assert_eq!(watch.offer(0, &TAG, &[]), Ok(Verdict::Opened));
     for block in 1..10 {
-        assert_eq!(watch.offer(block, &NEXT), Ok(Verdict::Kept));
+        assert_eq!(watch.offer(block, &NEXT, &[]), Ok(Verdict::Kept));
         assert_eq!(watch.expected(), Some(block + 1));
     }
-    assert_eq!(watch.last(), Some(read_tag(&NEXT).expect("a good tag")));
+    assert_eq!(watch.last(), Some(read_tag(&NEXT, &[]).expect("a good tag")));
     assert_eq!(watch.limit(), 500);
     let kept = Watch::of(watch.numbers());
-    assert_eq!(watch.offer(256 + 10, &NEXT), Err(Refusal::UnknownBlock));
-    assert_eq!(watch.offer(10, &NEXT[1..]), Err(Refusal::BadTag));
+    assert_eq!(watch.offer(256 + 10, &NEXT, &[]), Err(Refusal::UnknownBlock));
+    assert_eq!(watch.offer(10, &NEXT[1..], &[]), Err(Refusal::BadTag));
     assert_eq!(watch, kept);
-    assert_eq!(watch.offer(10, &NEXT), Ok(Verdict::Complete));
+    assert_eq!(watch.offer(10, &NEXT, &[]), Ok(Verdict::Complete));
     assert_eq!(watch.numbers(), Watch::begin(500).expect("idle").numbers());
 
     watch = kept;
-    assert_eq!(watch.offer(10, &TAG), Ok(Verdict::ClockBack));
+    assert_eq!(watch.offer(10, &TAG, &[]), Ok(Verdict::ClockBack));
     watch = kept;
-    assert_eq!(watch.offer(0, &NEXT), Ok(Verdict::Broken));
+    assert_eq!(watch.offer(0, &NEXT, &[]), Ok(Verdict::Broken));
     assert_eq!(watch.expected(), Some(1));
     watch = kept;
-    assert_eq!((watch.offer(11, &NEXT), watch.is_open()), (Ok(Verdict::Broken), false));
+    assert_eq!((watch.offer(11, &NEXT, &[]), watch.is_open()), (Ok(Verdict::Broken), false));
     let late = [0x20, 0x08, 0x06, 0x10, 0, 0, 0x05, 0x01];
     watch = kept;
-    assert_eq!(watch.offer(10, &late), Ok(Verdict::Late));
+    assert_eq!(watch.offer(10, &late, &[]), Ok(Verdict::Late));
     let mut numbers = kept.numbers();
     numbers[1] = 256 + 10;
-    assert_eq!(Watch::of(numbers).offer(10, &NEXT), Err(Refusal::NoRecord));
+    assert_eq!(Watch::of(numbers).offer(10, &NEXT, &[]), Err(Refusal::NoRecord));
 }
 
 #[test]
@@ -252,7 +388,7 @@ fn a_refusal_says_why() {
     assert_eq!(boxed.to_string(), format!("refusal 12: {text}"));
     for number in 0..=255 {
         let named = Refusal::from_number(number);
-        assert_eq!(named.map(Refusal::number), (1..=18).contains(&number).then_some(number));
+        assert_eq!(named.map(Refusal::number), (1..=19).contains(&number).then_some(number));
     }
 }
 

@@ -70,11 +70,30 @@ extern "C" {
     /// Judges those of block 1 of the Sounder spacelook set.
     pub fn rahmisve_parity_sounder(words: *const u16, words_length: usize, holds: *mut [u8; 2]) -> u8;
     /// Reads a time tag.
-    pub fn rahmisve_read_tag(tag: *const u8, tag_length: usize, time: *mut [u32; 7]) -> u8;
+    pub fn rahmisve_read_tag(
+        tag: *const u8,
+        tag_length: usize,
+        leap_days: *const u32,
+        leap_days_length: usize,
+        time: *mut [u32; 7],
+    ) -> u8;
     /// Writes the tag of a time.
-    pub fn rahmisve_write_tag(time: *const [u32; 7], tag: *mut [u8; 8]) -> u8;
+    pub fn rahmisve_write_tag(
+        time: *const [u32; 7],
+        leap_days: *const u32,
+        leap_days_length: usize,
+        tag: *mut [u8; 8],
+    ) -> u8;
     /// Milliseconds from one tag to another.
-    pub fn rahmisve_elapsed(from: *const u8, from_length: usize, to: *const u8, to_length: usize, ms: *mut i64) -> u8;
+    pub fn rahmisve_elapsed(
+        from: *const u8,
+        from_length: usize,
+        to: *const u8,
+        to_length: usize,
+        leap_days: *const u32,
+        leap_days_length: usize,
+        ms: *mut i64,
+    ) -> u8;
     /// Begins an idle watch.
     pub fn rahmisve_watch_begin(limit: u32, watch: *mut [u32; 10]) -> u8;
     /// Offers a block and its tag to a watch.
@@ -83,6 +102,8 @@ extern "C" {
         block: u32,
         tag: *const u8,
         tag_length: usize,
+        leap_days: *const u32,
+        leap_days_length: usize,
         verdict: *mut u8,
     ) -> u8;
     /// What stands in a recording from a byte on: returns what it found.
