@@ -17,6 +17,14 @@ pub enum Start {
     Lent(Watch),
 }
 
+/// A block offered to a watch with its tag, and the leap days lent this time.
+#[derive(Clone, Debug)]
+pub struct Offer {
+    pub block: u8,
+    pub tag: Vec<u8>,
+    pub leap_days: Vec<u32>,
+}
+
 /// `shift` moves the buffers, so that no alignment is relied on.
 #[derive(Clone, Debug)]
 pub enum Case {
@@ -25,11 +33,11 @@ pub enum Case {
     Write { header: Vec<u8>, words: Vec<u16>, dest: Vec<u8>, shift: usize },
     Record { header: Vec<u8>, words: Vec<u16>, k: usize },
     Place { block: u8, version: u8, record: u8 },
-    ReadTag { bytes: Vec<u8> },
-    WriteTag { tag: Tag },
-    Elapsed { first: Vec<u8>, second: Vec<u8> },
+    ReadTag { bytes: Vec<u8>, leap_days: Vec<u32> },
+    WriteTag { tag: Tag, leap_days: Vec<u32> },
+    Elapsed { first: Vec<u8>, second: Vec<u8>, leap_days: Vec<u32> },
     Begin { limit: u32 },
-    Offers { start: Start, offers: Vec<(u8, Vec<u8>)> },
+    Offers { start: Start, offers: Vec<Offer> },
     Imager { words: Vec<u16> },
     Sounder { words: Vec<u16> },
     NextField { recording: Vec<u8>, at: usize, shift: usize },
@@ -69,6 +77,7 @@ pub struct Outcome {
     pub answer: Answer,
     pub bytes: Vec<(&'static str, Lent<u8>)>,
     pub words: Vec<(&'static str, Lent<u16>)>,
+    pub leap_days: Vec<(&'static str, Lent<u32>)>,
     pub numbers: Vec<(&'static str, Lent<usize>)>,
 }
 
@@ -107,6 +116,11 @@ pub(crate) fn lend_words(content: &[u16], shift: usize) -> Lent<u16> {
     Lent::new(content, shift, 0xA5C3)
 }
 
+/// At the second number of its space, so that no more than a number's own alignment is relied on.
+fn lend_leap_days(content: &[u32]) -> Lent<u32> {
+    Lent::new(content, 1, 0xA5C3_A5C3)
+}
+
 fn lend_numbers(content: &[usize], shift: usize) -> Lent<usize> {
     Lent::new(content, shift, 0xA5C3_A5C3)
 }
@@ -114,6 +128,7 @@ fn lend_numbers(content: &[usize], shift: usize) -> Lent<usize> {
 pub fn run(library: &dyn Library, case: &Case) -> Outcome {
     let mut bytes = Vec::new();
     let mut words = Vec::new();
+    let mut lists = Vec::new();
     let mut numbers = Vec::new();
     let answer = match case {
         Case::CheckWord { bytes: lent } => {
@@ -152,22 +167,28 @@ pub fn run(library: &dyn Library, case: &Case) -> Outcome {
             let (number, channel, detector) = library.place(*block, *version, *record);
             Answer::Place(number, channel, detector)
         }
-        Case::ReadTag { bytes: lent } => {
+        Case::ReadTag { bytes: lent, leap_days } => {
             let lent = lend_bytes(lent, 0);
-            let (number, tag) = library.read_tag(lent.get());
+            let leap_days = lend_leap_days(leap_days);
+            let (number, tag) = library.read_tag(lent.get(), leap_days.get());
             bytes.push(("tag", lent));
+            lists.push(("leap days", leap_days));
             Answer::Tag(number, tag)
         }
-        Case::WriteTag { tag } => {
-            let (number, written) = library.write_tag(tag);
+        Case::WriteTag { tag, leap_days } => {
+            let leap_days = lend_leap_days(leap_days);
+            let (number, written) = library.write_tag(tag, leap_days.get());
+            lists.push(("leap days", leap_days));
             Answer::TagBytes(number, written)
         }
-        Case::Elapsed { first, second } => {
+        Case::Elapsed { first, second, leap_days } => {
             let first = lend_bytes(first, 0);
             let second = lend_bytes(second, 0);
-            let (number, time) = library.elapsed(first.get(), second.get());
+            let leap_days = lend_leap_days(leap_days);
+            let (number, time) = library.elapsed(first.get(), second.get(), leap_days.get());
             bytes.push(("first", first));
             bytes.push(("second", second));
+            lists.push(("leap days", leap_days));
             Answer::Elapsed(number, time)
         }
         Case::Begin { limit } => {
@@ -180,11 +201,13 @@ pub fn run(library: &dyn Library, case: &Case) -> Outcome {
                 Start::Lent(watch) => (0, *watch),
             };
             let mut verdicts = Vec::new();
-            for (block, tag) in offers {
+            for Offer { block, tag, leap_days } in offers {
                 let tag = lend_bytes(tag, 0);
-                let verdict = library.offer(&mut watch, *block, tag.get());
+                let leap_days = lend_leap_days(leap_days);
+                let verdict = library.offer(&mut watch, *block, tag.get(), leap_days.get());
                 verdicts.push((verdict, watch));
                 bytes.push(("tag", tag));
+                lists.push(("leap days", leap_days));
             }
             Answer::Offers(number, verdicts)
         }
@@ -253,7 +276,7 @@ pub fn run(library: &dyn Library, case: &Case) -> Outcome {
             Answer::Listing(listing)
         }
     };
-    Outcome { answer, bytes, words, numbers }
+    Outcome { answer, bytes, words, leap_days: lists, numbers }
 }
 
 pub(crate) fn hex(bytes: &[u8]) -> String {
@@ -313,14 +336,18 @@ impl Case {
                 bytes("header", header);
                 writeln!(text, "  words: {}, record {k}", words.len()).unwrap();
             }
-            Case::ReadTag { bytes: content } => bytes("tag", content),
-            Case::Elapsed { first, second } => {
+            Case::ReadTag { bytes: content, leap_days } => {
+                bytes("tag", content);
+                writeln!(text, "  leap days: {leap_days:?}").unwrap();
+            }
+            Case::Elapsed { first, second, leap_days } => {
                 bytes("first", first);
                 bytes("second", second);
+                writeln!(text, "  leap days: {leap_days:?}").unwrap();
             }
             Case::Offers { start, offers } => {
-                for (block, tag) in offers {
-                    bytes(&format!("offer of block {block}, tag"), tag);
+                for Offer { block, tag, leap_days } in offers {
+                    bytes(&format!("offer of block {block}, leap days {leap_days:?}, tag"), tag);
                 }
                 writeln!(text, "  start: {start:?}").unwrap();
             }
@@ -423,6 +450,9 @@ pub fn difference(library: &dyn Library, case: &Case, ours: &Outcome) -> Option<
         text += &first_difference(name, ours, theirs);
     }
     for ((name, ours), (_, theirs)) in ours.words.iter().zip(&theirs.words) {
+        text += &first_difference(name, ours, theirs);
+    }
+    for ((name, ours), (_, theirs)) in ours.leap_days.iter().zip(&theirs.leap_days) {
         text += &first_difference(name, ours, theirs);
     }
     for ((name, ours), (_, theirs)) in ours.numbers.iter().zip(&theirs.numbers) {

@@ -1,17 +1,17 @@
 //! The numbered table, the further run cases, block 2 by version, the listing's
-//! example, the salvage's and the errors trainees bring, with the answers that the
-//! specification prints. Nothing here asks the model, so it is checked like any
-//! library.
+//! example, the salvage's, leap seconds and the errors trainees bring, with the
+//! answers that the specification prints. Nothing here asks the model, so it is
+//! checked like any library.
 
 use std::fmt::Debug;
 
 use crate::check::check_word;
-use crate::inputs::field;
+use crate::inputs::{digits, field};
 use crate::library::{Library, SalvageAnswer};
 use crate::salvage::text;
 use crate::tags::Tag;
 use crate::tapes;
-use crate::watch::Verdict;
+use crate::watch::{Verdict, Watch};
 
 pub struct Findings {
     pub run: usize,
@@ -120,22 +120,22 @@ pub fn table(library: &dyn Library, found: &mut Findings) {
     found.expect("row 6", field_and_fill(library, 1, 0, 2_148), (0, 2_686, 8));
     field_starts(library, found, 3, 10, 20, &[0x00, 0x40, 0x20, 0x0C, 0x04]);
     field_starts(library, found, 11, 6, 10_720, &[0x04, 0x20, 0xC4]);
-    found.expect("row 9, tag", library.read_tag(&LATE_TAG), (0, clock(2008, 60, 23, 59, 59, 999)));
-    found.expect("row 9, later", library.elapsed(&LATE_TAG, &NEXT_TAG), (0, 1));
-    found.expect("row 9, backward", library.elapsed(&NEXT_TAG, &LATE_TAG), (0, -1));
+    found.expect("row 9, tag", library.read_tag(&LATE_TAG, &[]), (0, clock(2008, 60, 23, 59, 59, 999)));
+    found.expect("row 9, later", library.elapsed(&LATE_TAG, &NEXT_TAG, &[]), (0, 1));
+    found.expect("row 9, backward", library.elapsed(&NEXT_TAG, &LATE_TAG, &[]), (0, -1));
     let mut marked = LATE_TAG;
     marked[2] = 0x86;
     let with_mark = Tag { flywheel: true, ..clock(2008, 60, 23, 59, 59, 999) };
-    found.expect("row 10, tag", library.read_tag(&marked), (0, with_mark));
-    found.expect("row 10, same time", library.elapsed(&LATE_TAG, &marked), (0, 0));
-    found.expect("row 10, written", library.write_tag(&with_mark), (0, marked));
+    found.expect("row 10, tag", library.read_tag(&marked, &[]), (0, with_mark));
+    found.expect("row 10, same time", library.elapsed(&LATE_TAG, &marked, &[]), (0, 0));
+    found.expect("row 10, written", library.write_tag(&with_mark, &[]), (0, marked));
     let day_366 = |year| [0x20, year, 0x36, 0x60, 0, 0, 0, 0];
-    found.expect("row 11, leap", library.read_tag(&day_366(0x08)), (0, clock(2008, 366, 0, 0, 0, 0)));
-    found.expect("row 11, common", library.read_tag(&day_366(0x07)), (12, Tag::default()));
-    found.expect("row 11, written", library.write_tag(&clock(2007, 366, 0, 0, 0, 0)), (12, [0; 8]));
+    found.expect("row 11, leap", library.read_tag(&day_366(0x08), &[]), (0, clock(2008, 366, 0, 0, 0, 0)));
+    found.expect("row 11, common", library.read_tag(&day_366(0x07), &[]), (12, Tag::default()));
+    found.expect("row 11, written", library.write_tag(&clock(2007, 366, 0, 0, 0, 0), &[]), (12, [0; 8]));
     let old = [0x20, 0x07, 0x36, 0x50, 0, 0, 0, 0];
     let new = [0x20, 0x08, 0x00, 0x10, 0, 0, 0, 0];
-    found.expect("row 12", library.elapsed(&old, &new), (0, 86_400_000));
+    found.expect("row 12", library.elapsed(&old, &new, &[]), (0, 86_400_000));
     let mut words = vec![0; 8_040];
     words[..3].copy_from_slice(&[1, 2, 3]);
     found.expect("row 13", library.sounder(&words), (0, [true; 2]));
@@ -372,6 +372,206 @@ fn salvage_lone_block(library: &dyn Library, found: &mut Findings) {
     }
 }
 
+/// 2016 day 366 as a leap day.
+const LEAP_DAY: u32 = 2_016_366;
+const LAST_SECOND: [u8; 8] = [0x20, 0x16, 0x36, 0x62, 0x35, 0x95, 0x90, 0x00];
+const LEAP_SECOND: [u8; 8] = [0x20, 0x16, 0x36, 0x62, 0x35, 0x96, 0x00, 0x00];
+const LEAP_SECOND_ENDS: [u8; 8] = [0x20, 0x16, 0x36, 0x62, 0x35, 0x96, 0x09, 0x99];
+const NEW_YEAR: [u8; 8] = [0x20, 0x17, 0x00, 0x10, 0x00, 0x00, 0x00, 0x00];
+
+/// The end of 2016, with its last day listed and not, and lists that are refused.
+pub fn leap_seconds(library: &dyn Library, found: &mut Findings) {
+    leap_second_tags(library, found);
+    leap_second_times(library, found);
+    leap_lists(library, found);
+    list_before_tag(library, found);
+    watch_refusals_in_order(library, found);
+    last_tag_by_the_list_lent_now(library, found);
+    scan_across_a_leap_second(library, found);
+}
+
+fn leap_second_tags(library: &dyn Library, found: &mut Findings) {
+    let good = clock(2016, 366, 23, 59, 60, 999);
+    let rows: [(&[u32], u8); 5] =
+        [(&[LEAP_DAY], 0), (&[2_015_365, LEAP_DAY, 2_017_001], 0), (&[], 12), (&[2_016_365], 12), (&[2_017_001], 12)];
+    for (list, number) in rows {
+        let (tag, bytes) = if number == 0 { (good, LEAP_SECOND_ENDS) } else { (Tag::default(), [0; 8]) };
+        found.expect(&format!("second 60, {list:?}"), library.read_tag(&LEAP_SECOND_ENDS, list), (number, tag));
+        found.expect(&format!("second 60 written, {list:?}"), library.write_tag(&good, list), (number, bytes));
+    }
+    // Another hour, another minute, second 61, the day before, the day behind.
+    let bad = [
+        clock(2016, 366, 22, 59, 60, 0),
+        clock(2016, 366, 23, 58, 60, 0),
+        clock(2016, 366, 0, 0, 60, 0),
+        clock(2016, 366, 23, 59, 61, 0),
+        clock(2016, 365, 23, 59, 60, 0),
+        clock(2017, 1, 23, 59, 60, 0),
+        clock(2012, 366, 23, 59, 60, 0),
+    ];
+    for tag in bad {
+        found.expect(&format!("{tag:?} written"), library.write_tag(&tag, &[LEAP_DAY]), (12, [0; 8]));
+        found.expect(&format!("{tag:?}"), library.read_tag(&digits(&tag), &[LEAP_DAY]), (12, Tag::default()));
+    }
+}
+
+fn leap_second_times(library: &dyn Library, found: &mut Findings) {
+    let rows: [(&[u8], &[u8], i64); 6] = [
+        (&LAST_SECOND, &LEAP_SECOND, 1_000),
+        (&LEAP_SECOND, &NEW_YEAR, 1_000),
+        (&LEAP_SECOND_ENDS, &NEW_YEAR, 1),
+        (&LAST_SECOND, &NEW_YEAR, 2_000),
+        (&NEW_YEAR, &LAST_SECOND, -2_000),
+        (&LEAP_SECOND, &LEAP_SECOND_ENDS, 999),
+    ];
+    for (first, second, time) in rows {
+        let what = format!("from {first:02X?} to {second:02X?}");
+        found.expect(&what, library.elapsed(first, second, &[LEAP_DAY]), (0, time));
+    }
+    found.expect("without a leap second", library.elapsed(&LAST_SECOND, &NEW_YEAR, &[]), (0, 1_000));
+    found.expect("its own day, not listed", library.elapsed(&LEAP_SECOND, &NEW_YEAR, &[]), (12, 0));
+    // A listed day counts neither for itself nor for what is before it.
+    for list in [2_016_001, 2_017_001, 2_017_002] {
+        let what = format!("with {list} listed");
+        found.expect(&what, library.elapsed(&LAST_SECOND, &NEW_YEAR, &[list]), (0, 1_000));
+    }
+    let (start, end) = (digits(&clock(0, 1, 0, 0, 0, 0)), digits(&clock(9_999, 365, 23, 59, 59, 999)));
+    let all = 315_569_519_999_999;
+    found.expect("all years", library.elapsed(&start, &end, &[]), (0, all));
+    found.expect("all years, 64 leap days", library.elapsed(&start, &end, &days_of_1973(64)), (0, all + 64_000));
+    found.expect("the last day listed", library.elapsed(&start, &end, &[9_999_365]), (0, all));
+    found.expect("the first day listed", library.elapsed(&start, &end, &[1]), (0, all + 1_000));
+}
+
+/// So many successive days, none of which the other cases ask for.
+fn days_of_1973(count: u32) -> Vec<u32> {
+    (1_973_001..1_973_001 + count).collect()
+}
+
+fn bad_lists() -> Vec<Vec<u32>> {
+    vec![
+        days_of_1973(65),
+        vec![LEAP_DAY, LEAP_DAY],
+        vec![LEAP_DAY, 2_016_365],
+        vec![2_016_000],
+        vec![2_016_367],
+        vec![2_016_999],
+        vec![2_015_366],
+        vec![1_900_366],
+        vec![9_999_366],
+        vec![10_000_001],
+        vec![0],
+        vec![1_972_182, 2_015_366, LEAP_DAY],
+        vec![u32::MAX],
+    ]
+}
+
+/// An idle and an open watch answer alike, and stay as they are.
+fn leap_lists(library: &dyn Library, found: &mut Findings) {
+    let late = clock(2008, 60, 23, 59, 59, 999);
+    let lists = bad_lists().into_iter().map(|list| (list, 19));
+    let good = [vec![], vec![1], vec![366], vec![9_999_365], vec![2_000_366], days_of_1973(64)];
+    for (list, number) in lists.chain(good.map(|list| (list, 0))) {
+        let what = |who| format!("list of {} from {:?} on, {who}", list.len(), list.first());
+        let accepted = number == 0;
+        let (tag, bytes) = if accepted { (late, LATE_TAG) } else { (Tag::default(), [0; 8]) };
+        found.expect(&what("reader"), library.read_tag(&LATE_TAG, &list), (number, tag));
+        found.expect(&what("writer"), library.write_tag(&late, &list), (number, bytes));
+        let time = i64::from(accepted);
+        found.expect(&what("elapsed time"), library.elapsed(&LATE_TAG, &NEXT_TAG, &list), (number, time));
+        for open in [false, true] {
+            let before = Watch { open, expected: 1, tag: late, limit: 1 };
+            let mut watch = before;
+            let verdict = library.offer(&mut watch, 2, &NEXT_TAG, &list);
+            let wanted = match (accepted, open) {
+                (false, _) => Verdict::Refused(19),
+                (true, false) => Verdict::Stray,
+                (true, true) => Verdict::Broken,
+            };
+            found.expect(&what("watch"), verdict, wanted);
+            found.expect(&what("watch afterwards"), watch == before, wanted != Verdict::Broken);
+        }
+    }
+}
+
+/// A tag that is bad too does not hide a bad list.
+fn list_before_tag(library: &dyn Library, found: &mut Findings) {
+    for list in bad_lists() {
+        for tag in [&[][..], &LATE_TAG[..7], &[0xFF; 8], &[0; 9], &LEAP_SECOND] {
+            found.expect("bad tag and list", library.read_tag(tag, &list), (19, Tag::default()));
+            found.expect("bad tag and list, from", library.elapsed(tag, &LATE_TAG, &list), (19, 0));
+            found.expect("bad tag and list, to", library.elapsed(&LATE_TAG, tag, &list), (19, 0));
+        }
+        let bad = clock(10_000, 0, 24, 60, 61, 1_000);
+        found.expect("bad numbers and list", library.write_tag(&bad, &list), (19, [0; 8]));
+    }
+}
+
+/// A record, list, block and tag with every ground for refusal; each one answered is mended.
+fn watch_refusals_in_order(library: &dyn Library, found: &mut Findings) {
+    let mut watch = Watch { open: true, expected: 11, tag: clock(2016, 366, 23, 59, 61, 0), limit: 3_600_001 };
+    let (mut list, mut block, mut tag) = (vec![LEAP_DAY, LEAP_DAY], 12, [0xFF; 8]);
+    for number in [16, 13, 19, 12, 4, 12] {
+        let before = watch;
+        let verdict = library.offer(&mut watch, block, &tag, &list);
+        found.expect("refusals in their order", (verdict, watch), (Verdict::Refused(number), before));
+        match number {
+            16 => watch.limit = 1_000,
+            13 => watch.expected = 10,
+            19 => list = vec![LEAP_DAY],
+            12 if block == 12 => watch.tag.second = 60,
+            4 => block = 10,
+            _ => tag = NEW_YEAR,
+        }
+    }
+    found.expect("all mended", library.offer(&mut watch, block, &tag, &list), Verdict::Complete);
+    // What an idle record is not asked for does not come before the list.
+    let mut idle = Watch { open: false, expected: 11, tag: clock(10_000, 0, 0, 0, 0, 0), limit: 0 };
+    found.expect("idle", library.offer(&mut idle, 12, &[], &[0]), Verdict::Refused(19));
+    found.expect("idle, good list", library.offer(&mut idle, 12, &[], &[LEAP_DAY]), Verdict::Refused(4));
+    idle.limit = 3_600_001;
+    found.expect("idle, limit", library.offer(&mut idle, 12, &[], &[0]), Verdict::Refused(16));
+}
+
+fn last_tag_by_the_list_lent_now(library: &dyn Library, found: &mut Findings) {
+    let (_, mut watch) = library.begin(1_000);
+    let opened = library.offer(&mut watch, 0, &LEAP_SECOND, &[LEAP_DAY]);
+    found.expect("opened in a leap second", opened, Verdict::Opened);
+    found.expect("its tag", watch.tag, clock(2016, 366, 23, 59, 60, 0));
+    let before = watch;
+    for list in [&[][..], &[2_016_365]] {
+        let verdict = library.offer(&mut watch, 1, &NEW_YEAR, list);
+        found.expect("last tag not listed now", (verdict, watch), (Verdict::Refused(12), before));
+    }
+    let verdict = library.offer(&mut watch, 1, &NEW_YEAR, &[LEAP_DAY]);
+    found.expect("listed again", verdict, Verdict::Kept);
+    // From here on no tag is in a leap second, and any list will do.
+    found.expect("no list", library.offer(&mut watch, 2, &NEW_YEAR, &[]), Verdict::Kept);
+}
+
+/// Eleven tags 200 ms apart, from 23:59:59.200 to 00:00:00.200: two seconds.
+fn scan_across_a_leap_second(library: &dyn Library, found: &mut Findings) {
+    let tag = |block: u16| match 200 * (block + 1) {
+        ms @ 0..1_000 => clock(2016, 366, 23, 59, 59, ms),
+        ms @ 1_000..2_000 => clock(2016, 366, 23, 59, 60, ms - 1_000),
+        ms => clock(2017, 1, 0, 0, 0, ms - 2_000),
+    };
+    let tags: Vec<[u8; 8]> = (0..=10).map(|block| digits(&tag(block))).collect();
+    let scan = |limit: u32, list: &[u32]| -> Vec<Verdict> {
+        let mut watch = library.begin(limit).1;
+        (0..).zip(&tags).map(|(block, tag)| library.offer(&mut watch, block, tag, list)).collect()
+    };
+    use Verdict::*;
+    let whole = [&[Opened][..], &[Kept; 9], &[Complete]].concat();
+    found.expect("scan across a leap second", scan(200, &[LEAP_DAY]), whole);
+    let late = [&[Opened, Late][..], &[Stray; 9]].concat();
+    found.expect("the same, a shorter limit", scan(199, &[LEAP_DAY]), late);
+    // Without the day in the list five tags are bad, so that their blocks are missing when the next good one comes.
+    let refused = [&[Opened][..], &[Kept; 3], &[Refused(12); 5], &[Broken, Stray]].concat();
+    found.expect("the same, not listed", scan(200, &[]), refused);
+    found.expect("its time", library.elapsed(&tags[0], &tags[10], &[LEAP_DAY]), (0, 2_000));
+}
+
 pub fn trainee_errors(library: &dyn Library, found: &mut Findings) {
     let lent = header(3, 10, 2, 20);
     let (_, block) = written(library, &lent, &[0x155; 20]);
@@ -418,8 +618,8 @@ pub fn trainee_errors(library: &dyn Library, found: &mut Findings) {
 
     // A tag one millisecond back closes the scan, however long the limit.
     let (_, mut watch) = library.begin(3_600_000);
-    found.expect("opened", library.offer(&mut watch, 0, &NEXT_TAG), Verdict::Opened);
-    found.expect("clock back", library.offer(&mut watch, 1, &LATE_TAG), Verdict::ClockBack);
+    found.expect("opened", library.offer(&mut watch, 0, &NEXT_TAG, &[]), Verdict::Opened);
+    found.expect("clock back", library.offer(&mut watch, 1, &LATE_TAG, &[]), Verdict::ClockBack);
     found.expect("idle", (watch.open, watch.expected, watch.tag), (false, 0, Tag::default()));
 
     // Word 7905 is outside the fourth section, word 7902 inside.
@@ -439,6 +639,7 @@ pub fn all(library: &dyn Library) -> Findings {
     block_2(library, &mut found);
     listing(library, &mut found);
     salvage(library, &mut found);
+    leap_seconds(library, &mut found);
     trainee_errors(library, &mut found);
     found
 }

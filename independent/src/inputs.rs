@@ -3,11 +3,11 @@
 
 use crate::block::write;
 use crate::check::check_bytes;
-use crate::compare::{Case, Start};
+use crate::compare::{Case, Offer, Start};
 use crate::document;
 use crate::header::{self, sealed, HEADER};
 use crate::rows::{self, LARGEST_C, LARGEST_N};
-use crate::tags::{days_in, Tag};
+use crate::tags::{days_in, LeapDays, Tag};
 use crate::watch::{self, Watch, LONGEST_WAIT};
 use crate::words;
 
@@ -581,14 +581,16 @@ fn place_case(dice: &mut Dice) -> Case {
 
 // ---- time tags ----
 
-const LAST_TIME: i64 = 315_569_519_999_999;
+pub(crate) const LAST_TIME: i64 = 315_569_519_999_999;
 
 /// The tag of a time since year 0 began.
 pub fn tag_at(time: i64, flywheel: bool) -> Tag {
     let time = time.clamp(0, LAST_TIME);
     let mut days = time / 86_400_000;
     let of_day = time % 86_400_000;
-    let mut year = 0;
+    // Four hundred years are as many days whenever they begin.
+    let mut year = 400 * (days / 146_097) as u16;
+    days %= 146_097;
     while days >= days_in(year) as i64 {
         days -= days_in(year) as i64;
         year += 1;
@@ -639,7 +641,7 @@ fn some_year(dice: &mut Dice) -> u16 {
     }
 }
 
-fn often_at_edge(dice: &mut Dice, end: usize) -> usize {
+pub(crate) fn often_at_edge(dice: &mut Dice, end: usize) -> usize {
     match dice.below(4) {
         0 => 0,
         1 => end - 1,
@@ -668,7 +670,7 @@ pub fn sound_tag(dice: &mut Dice) -> [u8; 8] {
 }
 
 /// One number moved to its bound or past it.
-fn strained_tag(dice: &mut Dice) -> Tag {
+pub(crate) fn strained_tag(dice: &mut Dice) -> Tag {
     let mut tag = some_tag(dice);
     match dice.below(6) {
         0 => tag.year = dice.pick(&[9_999, 10_000, 32_768, 65_535]),
@@ -713,7 +715,7 @@ pub fn lent_tag(dice: &mut Dice) -> Vec<u8> {
 
 fn write_tag_case(dice: &mut Dice) -> Case {
     let tag = if dice.one_in(2) { some_tag(dice) } else { strained_tag(dice) };
-    Case::WriteTag { tag }
+    Case::WriteTag { tag, leap_days: vec![] }
 }
 
 fn elapsed_case(dice: &mut Dice) -> Case {
@@ -727,19 +729,19 @@ fn elapsed_case(dice: &mut Dice) -> Case {
             _ => dice.below(40_000_000_000) as i64,
         };
         let way = if dice.one_in(2) { -1 } else { 1 };
-        digits(&tag_at(first.time() + way * step, dice.one_in(3))).to_vec()
+        digits(&tag_at(first.time(&LeapDays::new()) + way * step, dice.one_in(3))).to_vec()
     };
     let (first_bytes, second) = match dice.below(8) {
         0..=3 => (digits(&first).to_vec(), near(dice)),
         4 | 5 => (digits(&first).to_vec(), sound_tag(dice).to_vec()),
         _ => (lent_tag(dice), lent_tag(dice)),
     };
-    Case::Elapsed { first: first_bytes, second }
+    Case::Elapsed { first: first_bytes, second, leap_days: vec![] }
 }
 
 // ---- the scan watch ----
 
-fn some_limit(dice: &mut Dice) -> u32 {
+pub(crate) fn some_limit(dice: &mut Dice) -> u32 {
     match dice.below(3) {
         0 => dice.pick(&[0, 1, 2, 10, 999, 1_000, 60_000, LONGEST_WAIT - 1, LONGEST_WAIT]),
         1 => dice.below(LONGEST_WAIT as usize + 1) as u32,
@@ -761,7 +763,7 @@ fn begin_case(dice: &mut Dice) -> Case {
 }
 
 /// A record as a host might lend it, inside its bounds or not.
-fn lent_watch(dice: &mut Dice) -> Watch {
+pub(crate) fn lent_watch(dice: &mut Dice) -> Watch {
     let mut watch = Watch {
         open: dice.one_in(2),
         expected: dice.between(1, 10) as u8,
@@ -795,10 +797,11 @@ fn offers_case(dice: &mut Dice) -> Case {
     let noise = dice.pick(&[0, 1, 3, 10, 30]);
     let noisy = |dice: &mut Dice| dice.below(100) < noise;
     let mut offers = Vec::new();
-    let mut now = some_tag(dice).time();
+    let none = LeapDays::new();
+    let mut now = some_tag(dice).time(&none);
     for _ in 0..count {
-        if watch.open && watch.tag.in_bounds() {
-            now = watch.tag.time();
+        if watch.open && watch.tag.in_bounds(&none) {
+            now = watch.tag.time(&none);
         }
         let limit = watch.limit.min(LONGEST_WAIT) as i64;
         now += if noisy(dice) || matches!(start, Start::Lent(_)) && dice.one_in(2) {
@@ -835,8 +838,8 @@ fn offers_case(dice: &mut Dice) -> Case {
         };
         let tag =
             if noisy(dice) && dice.one_in(2) { lent_tag(dice) } else { digits(&tag_at(now, dice.one_in(4))).to_vec() };
-        watch::offer(&mut watch, block, &tag);
-        offers.push((block, tag));
+        watch::offer(&mut watch, block, &tag, &[]);
+        offers.push(Offer { block, tag, leap_days: vec![] });
     }
     Case::Offers { start, offers }
 }
@@ -1003,7 +1006,7 @@ pub fn case(dice: &mut Dice) -> Case {
         35..=49 => write_case(dice),
         50..=57 => record_case(dice),
         58..=59 => place_case(dice),
-        60..=66 => Case::ReadTag { bytes: lent_tag(dice) },
+        60..=66 => Case::ReadTag { bytes: lent_tag(dice), leap_days: vec![] },
         67..=71 => write_tag_case(dice),
         72..=77 => elapsed_case(dice),
         78 => begin_case(dice),
@@ -1031,7 +1034,7 @@ mod tests {
     #[test]
     fn the_end_of_time() {
         let last = Tag { year: 9999, day: 365, hour: 23, minute: 59, second: 59, millisecond: 999, flywheel: false };
-        assert_eq!(last.time(), LAST_TIME);
+        assert_eq!(last.time(&LeapDays::new()), LAST_TIME);
         assert_eq!(tag_at(LAST_TIME, false), last);
         assert_eq!(tag_at(0, false), Tag { day: 1, ..Tag::default() });
     }
@@ -1039,11 +1042,12 @@ mod tests {
     #[test]
     fn sound_tags_are_good() {
         let mut dice = Dice::new(2);
+        let none = LeapDays::new();
         for _ in 0..20_000 {
             let tag = some_tag(&mut dice);
-            assert!(tag.in_bounds(), "{tag:?}");
-            assert_eq!(tags::read_tag(&digits(&tag)), (0, tag));
-            assert_eq!(tag_at(tag.time(), tag.flywheel), tag);
+            assert!(tag.in_bounds(&none), "{tag:?}");
+            assert_eq!(tags::read_tag(&digits(&tag), &[]), (0, tag));
+            assert_eq!(tag_at(tag.time(&none), tag.flywheel), tag);
         }
     }
 }

@@ -84,11 +84,12 @@ pub trait Library {
     fn record(&self, header: &[u8], words: &[u16], k: usize) -> (u8, usize, usize);
     /// Number, channel, detector.
     fn place(&self, block: u8, version: u8, record: u8) -> (u8, u8, u8);
-    fn read_tag(&self, bytes: &[u8]) -> (u8, Tag);
-    fn write_tag(&self, tag: &Tag) -> (u8, [u8; 8]);
-    fn elapsed(&self, first: &[u8], second: &[u8]) -> (u8, i64);
+    /// Leap days are lent with every tag, as numbers like 2016366.
+    fn read_tag(&self, bytes: &[u8], leap_days: &[u32]) -> (u8, Tag);
+    fn write_tag(&self, tag: &Tag, leap_days: &[u32]) -> (u8, [u8; 8]);
+    fn elapsed(&self, first: &[u8], second: &[u8], leap_days: &[u32]) -> (u8, i64);
     fn begin(&self, limit: u32) -> (u8, Watch);
-    fn offer(&self, watch: &mut Watch, block: u8, tag: &[u8]) -> Verdict;
+    fn offer(&self, watch: &mut Watch, block: u8, tag: &[u8], leap_days: &[u32]) -> Verdict;
     fn imager(&self, words: &[u16]) -> (u8, [bool; 4]);
     fn sounder(&self, words: &[u16]) -> (u8, [bool; 2]);
     fn next_field(&self, recording: &[u8], at: usize) -> FieldAnswer;
@@ -154,20 +155,20 @@ impl Library for Model {
     fn place(&self, block: u8, version: u8, record: u8) -> (u8, u8, u8) {
         placement::place(block, version, record)
     }
-    fn read_tag(&self, bytes: &[u8]) -> (u8, Tag) {
-        tags::read_tag(bytes)
+    fn read_tag(&self, bytes: &[u8], leap_days: &[u32]) -> (u8, Tag) {
+        tags::read_tag(bytes, leap_days)
     }
-    fn write_tag(&self, tag: &Tag) -> (u8, [u8; 8]) {
-        tags::write_tag(tag)
+    fn write_tag(&self, tag: &Tag, leap_days: &[u32]) -> (u8, [u8; 8]) {
+        tags::write_tag(tag, leap_days)
     }
-    fn elapsed(&self, first: &[u8], second: &[u8]) -> (u8, i64) {
-        tags::elapsed(first, second)
+    fn elapsed(&self, first: &[u8], second: &[u8], leap_days: &[u32]) -> (u8, i64) {
+        tags::elapsed(first, second, leap_days)
     }
     fn begin(&self, limit: u32) -> (u8, Watch) {
         watch::begin(limit)
     }
-    fn offer(&self, watch: &mut Watch, block: u8, tag: &[u8]) -> Verdict {
-        watch::offer(watch, block, tag)
+    fn offer(&self, watch: &mut Watch, block: u8, tag: &[u8], leap_days: &[u32]) -> Verdict {
+        watch::offer(watch, block, tag, leap_days)
     }
     fn imager(&self, words: &[u16]) -> (u8, [bool; 4]) {
         parity::imager(words)

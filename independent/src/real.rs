@@ -44,6 +44,15 @@ fn watch_of(record: &[u32; 10]) -> Watch {
     Watch { open: record[0] != 0, expected: record[1] as u8, tag: tag_of(&record[2..9]), limit: record[9] }
 }
 
+/// No leap days are lent as null, the way a caller in C has it.
+fn place_of(leap_days: &[u32]) -> *const u32 {
+    if leap_days.is_empty() {
+        std::ptr::null()
+    } else {
+        leap_days.as_ptr()
+    }
+}
+
 pub struct Real;
 
 impl Library for Real {
@@ -100,19 +109,30 @@ impl Library for Real {
             unsafe { rahmisve_place(block.into(), version.into(), record.into(), &mut channel, &mut detector) };
         (number, channel, detector)
     }
-    fn read_tag(&self, bytes: &[u8]) -> (u8, Tag) {
+    fn read_tag(&self, bytes: &[u8], leap_days: &[u32]) -> (u8, Tag) {
         let mut time = [0x5A5A; 7];
-        let number = unsafe { rahmisve_read_tag(bytes.as_ptr(), bytes.len(), &mut time) };
+        let number =
+            unsafe { rahmisve_read_tag(bytes.as_ptr(), bytes.len(), place_of(leap_days), leap_days.len(), &mut time) };
         (number, tag_of(&time))
     }
-    fn write_tag(&self, tag: &Tag) -> (u8, [u8; 8]) {
+    fn write_tag(&self, tag: &Tag, leap_days: &[u32]) -> (u8, [u8; 8]) {
         let mut bytes = [0x5A; 8];
-        let number = unsafe { rahmisve_write_tag(&numbers(tag), &mut bytes) };
+        let number = unsafe { rahmisve_write_tag(&numbers(tag), place_of(leap_days), leap_days.len(), &mut bytes) };
         (number, bytes)
     }
-    fn elapsed(&self, first: &[u8], second: &[u8]) -> (u8, i64) {
+    fn elapsed(&self, first: &[u8], second: &[u8], leap_days: &[u32]) -> (u8, i64) {
         let mut ms = 0x5A5A;
-        let number = unsafe { rahmisve_elapsed(first.as_ptr(), first.len(), second.as_ptr(), second.len(), &mut ms) };
+        let number = unsafe {
+            rahmisve_elapsed(
+                first.as_ptr(),
+                first.len(),
+                second.as_ptr(),
+                second.len(),
+                place_of(leap_days),
+                leap_days.len(),
+                &mut ms,
+            )
+        };
         (number, ms)
     }
     fn begin(&self, limit: u32) -> (u8, Watch) {
@@ -124,10 +144,20 @@ impl Library for Real {
         assert_eq!(record, [0x5A5A; 10], "a refusal leaves the lent record");
         (number, watch_of(&[0; 10]))
     }
-    fn offer(&self, watch: &mut Watch, block: u8, tag: &[u8]) -> Verdict {
+    fn offer(&self, watch: &mut Watch, block: u8, tag: &[u8], leap_days: &[u32]) -> Verdict {
         let mut record = record_of(watch);
         let mut verdict = 0x5A;
-        let number = unsafe { rahmisve_watch_offer(&mut record, block.into(), tag.as_ptr(), tag.len(), &mut verdict) };
+        let number = unsafe {
+            rahmisve_watch_offer(
+                &mut record,
+                block.into(),
+                tag.as_ptr(),
+                tag.len(),
+                place_of(leap_days),
+                leap_days.len(),
+                &mut verdict,
+            )
+        };
         *watch = watch_of(&record);
         match verdict {
             0 => Verdict::Refused(number),

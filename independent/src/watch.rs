@@ -1,6 +1,6 @@
 //! The watch that follows a scan, blocks 0 to 10.
 
-use crate::tags::{try_read, Tag};
+use crate::tags::{leap_days, try_read, LeapDays, Tag};
 
 pub const LONGEST_WAIT: u32 = 3_600_000;
 
@@ -39,39 +39,49 @@ fn idle(limit: u32) -> Watch {
     Watch { open: false, expected: 0, tag: Tag::default(), limit }
 }
 
-/// Refusals of the lent record: an idle one's block and tag are not read.
-fn record_refusal(watch: &Watch) -> Option<u8> {
+/// The leap days, or why the lent record or their list is refused: an idle record's block and tag are not read.
+fn lent_leap_days(watch: &Watch, lent: &[u32]) -> Result<LeapDays, u8> {
     if watch.limit > LONGEST_WAIT {
-        return Some(16);
+        return Err(16);
     }
     if watch.open && !(1..=10).contains(&watch.expected) {
-        return Some(13);
+        return Err(13);
     }
-    if watch.open && !watch.tag.in_bounds() {
-        return Some(12);
+    let leap_days = leap_days(lent)?;
+    if watch.open && !watch.tag.in_bounds(&leap_days) {
+        return Err(12);
     }
-    None
+    Ok(leap_days)
 }
 
-pub fn offer(watch: &mut Watch, block: u8, tag: &[u8]) -> Verdict {
-    if let Some(number) = record_refusal(watch) {
-        return Verdict::Refused(number);
-    }
+fn try_offer(watch: &mut Watch, block: u8, tag: &[u8], lent: &[u32]) -> Result<Verdict, u8> {
+    let leap_days = lent_leap_days(watch, lent)?;
     if block > 11 {
-        return Verdict::Refused(4);
+        return Err(4);
     }
-    let tag = match try_read(tag) {
-        Ok(tag) => tag,
-        Err(number) => return Verdict::Refused(number),
-    };
+    let tag = try_read(tag, &leap_days)?;
     if !watch.open {
-        if block != 0 {
-            return Verdict::Stray;
-        }
-        *watch = opened(watch.limit, tag);
-        return Verdict::Opened;
+        return Ok(offer_idle(watch, block, tag));
     }
-    let d = tag.time() - watch.tag.time();
+    let d = tag.time(&leap_days) - watch.tag.time(&leap_days);
+    Ok(offer_open(watch, block, tag, d))
+}
+
+pub fn offer(watch: &mut Watch, block: u8, tag: &[u8], lent: &[u32]) -> Verdict {
+    try_offer(watch, block, tag, lent).unwrap_or_else(Verdict::Refused)
+}
+
+/// What an idle watch makes of an offer that is not refused.
+pub fn offer_idle(watch: &mut Watch, block: u8, tag: Tag) -> Verdict {
+    if block != 0 {
+        return Verdict::Stray;
+    }
+    *watch = opened(watch.limit, tag);
+    Verdict::Opened
+}
+
+/// What an open one makes of it, `d` being the time since the last tag.
+pub fn offer_open(watch: &mut Watch, block: u8, tag: Tag, d: i64) -> Verdict {
     let verdict = if d < 0 {
         Verdict::ClockBack
     } else if d > watch.limit as i64 {

@@ -6,7 +6,7 @@ use crate::header::{meaning, passing, sealed, HEADER};
 use crate::library::{FieldAnswer, Found, Library, LineAnswer, Model, ReadAnswer, SalvageAnswer};
 use crate::tags::{self, Tag};
 use crate::watch::{Verdict, Watch};
-use crate::{rows, words, wrong_salvage};
+use crate::{rows, words, wrong_leaps, wrong_salvage};
 
 pub const FAULTS: [&str; 80] = [
     "takes copy 1 unread",
@@ -411,8 +411,8 @@ impl Library for Wrong {
         Model.place(block, version, record)
     }
 
-    fn read_tag(&self, bytes: &[u8]) -> (u8, Tag) {
-        let (number, tag) = Model.read_tag(bytes);
+    fn read_tag(&self, bytes: &[u8], leap_days: &[u32]) -> (u8, Tag) {
+        let (number, tag) = wrong_leaps::read_tag(self.0, bytes, leap_days);
         if self.is("takes every fourth year as leap") && number == 12 && bytes.len() == 8 {
             let year_and_day = (bytes[0] & 3, bytes[1], bytes[2] & 0x7F, bytes[3] >> 4);
             if matches!(year_and_day, (1..=3, 0, 0x36, 6)) {
@@ -426,19 +426,19 @@ impl Library for Wrong {
             let mut other = bytes.to_vec();
             if (other[2] & 0x7F, other[3] >> 4) == (0x36, 6) {
                 other[3] -= 0x10;
-                let (number, tag) = Model.read_tag(&other);
+                let (number, tag) = Model.read_tag(&other, leap_days);
                 return (number, if number == 0 { Tag { day: 366, ..tag } } else { tag });
             }
         }
         (number, tag)
     }
 
-    fn write_tag(&self, tag: &Tag) -> (u8, [u8; 8]) {
-        Model.write_tag(tag)
+    fn write_tag(&self, tag: &Tag, leap_days: &[u32]) -> (u8, [u8; 8]) {
+        wrong_leaps::write_tag(self.0, tag, leap_days)
     }
 
-    fn elapsed(&self, first: &[u8], second: &[u8]) -> (u8, i64) {
-        let (number, time) = Model.elapsed(first, second);
+    fn elapsed(&self, first: &[u8], second: &[u8], leap_days: &[u32]) -> (u8, i64) {
+        let (number, time) = wrong_leaps::elapsed(self.0, first, second, leap_days);
         if self.is("gives elapsed time without sign") {
             return (number, time.abs());
         }
@@ -455,26 +455,27 @@ impl Library for Wrong {
         Model.begin(limit)
     }
 
-    fn offer(&self, watch: &mut Watch, block: u8, tag: &[u8]) -> Verdict {
+    fn offer(&self, watch: &mut Watch, block: u8, tag: &[u8], leap_days: &[u32]) -> Verdict {
         let before = *watch;
-        let offered = tags::read_tag(tag);
+        let offered = tags::read_tag(tag, leap_days);
         if self.is("watch only nods after its first offer") && watch.open {
             return Verdict::Kept;
         }
-        let verdict = Model.offer(watch, block, tag);
+        let verdict = wrong_leaps::offer(self.0, watch, block, tag, leap_days);
         let refused = matches!(verdict, Verdict::Refused(_));
         match (self.0, verdict) {
             ("clips a backward wait to zero", Verdict::ClockBack) => {
                 *watch = before;
                 watch.tag = offered.1;
-                let verdict = Model.offer(watch, block, tag);
+                let verdict = Model.offer(watch, block, tag, leap_days);
                 if verdict == Verdict::Kept {
                     watch.tag = offered.1;
                 }
                 return verdict;
             }
             ("calls a wait of exactly the limit late", _) if before.open && !refused => {
-                if offered.1.time() - before.tag.time() == before.limit as i64 {
+                let (_, wait) = Model.elapsed(&tags::spell(&before.tag), tag, leap_days);
+                if wait == before.limit as i64 {
                     return Verdict::Late;
                 }
             }
@@ -494,7 +495,7 @@ impl Library for Wrong {
                 *watch = Watch { limit: before.limit, ..Watch::default() };
             }
             ("tests the tag of an idle record", _) if !before.open && !refused => {
-                if before.tag != Tag::default() && !before.tag.in_bounds() {
+                if before.tag != Tag::default() && Model.write_tag(&before.tag, leap_days).0 != 0 {
                     *watch = before;
                     return Verdict::Refused(12);
                 }
@@ -504,7 +505,9 @@ impl Library for Wrong {
             }
             ("tests the limit of a lent record last", Verdict::Refused(16)) => {
                 let within = Watch { limit: 0, ..before };
-                if let Verdict::Refused(number) = Model.offer(&mut { within }, 0, &[0, 0, 0, 0x10, 0, 0, 0, 0]) {
+                if let Verdict::Refused(number) =
+                    Model.offer(&mut { within }, 0, &[0, 0, 0, 0x10, 0, 0, 0, 0], leap_days)
+                {
                     return Verdict::Refused(number);
                 }
             }

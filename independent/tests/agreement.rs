@@ -5,6 +5,7 @@ use std::collections::BTreeSet;
 
 use independent::check::check_word;
 use independent::compare::{case_of, compare, compare_placements, difference, run, Answer, Case, Tally};
+use independent::compare_leaps::compare_leaps;
 use independent::compare_salvages::{compare_named, compare_salvages, compare_tapes, rooms_around, salvage_of};
 use independent::compare_words::{
     compare_counts, compare_drawn, compare_large_words, compare_long_fields, compare_words,
@@ -77,6 +78,7 @@ fn without_a_fault_none_is_found() {
     compare_placements(&library).unwrap();
     compare_words(&library, 1, 5_000).unwrap();
     compare_salvages(&library, 1, 200, &mut Tally::default()).unwrap();
+    compare_leaps(&library, 1, 5_000, &mut Tally::default()).unwrap();
     assert!(document::all(&library).wrong.is_empty());
 }
 
@@ -347,11 +349,11 @@ fn a_completed_scan_stays_within_ten_limits() {
         let mut opening = 0;
         let mut was_open = false;
         for (index, (verdict, watch)) in verdicts.iter().enumerate() {
-            if !matches!(verdict, Verdict::Refused(_)) && offers[index].0 == 0 && watch.open {
+            if !matches!(verdict, Verdict::Refused(_)) && offers[index].block == 0 && watch.open {
                 opening = index;
             }
             if *verdict == Verdict::Complete {
-                let (answer, time) = Model.elapsed(&offers[opening].1, &offers[index].1);
+                let (answer, time) = Model.elapsed(&offers[opening].tag, &offers[index].tag, &[]);
                 assert!(was_open && answer == 0 && time >= 0 && time <= 10 * *limit as i64);
                 completed += 1;
             }

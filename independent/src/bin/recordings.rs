@@ -12,7 +12,7 @@ use independent::document::header;
 use independent::inputs::{digits, field, recording, scanned, tag_at, Dice};
 use independent::recording::list;
 use independent::rows::{c_of_n, id_of_block, records, LARGEST_N};
-use independent::tags::Tag;
+use independent::tags::{LeapDays, Tag};
 
 /// A block of the narrowest scan.
 fn block(number: u8, version: u8) -> Vec<u8> {
@@ -84,7 +84,7 @@ fn example() -> Vec<u8> {
 
 /// A block whose SPS time is so many milliseconds behind the midnight that begins 2008 day 61.
 fn made(number: u8, size: u8, c: u16, version: u8, ms: i64) -> Vec<u8> {
-    let midnight = Tag { year: 2008, day: 61, ..Tag::default() }.time();
+    let midnight = Tag { year: 2008, day: 61, ..Tag::default() }.time(&LeapDays::new());
     let mut header = header(id_of_block(number), size, version, c);
     header[8] = 1;
     header[16..24].copy_from_slice(&digits(&tag_at(midnight + ms, false)));
@@ -231,7 +231,7 @@ mod tests {
             let answer = read(body, &mut [0; 22_000]);
             if *tag == 1 && answer.number == 0 {
                 let block = meaning(&answer.header).unwrap().block;
-                verdicts.push(offer(&mut watch, block, &answer.header[16..24]));
+                verdicts.push(offer(&mut watch, block, &answer.header[16..24], &[]));
             }
         }
         use Verdict::*;
