@@ -4,4 +4,4 @@ use Rattle.c_tags.specs.Promises.{TagKept}
 use Rattle.c_tags.proofs.LawsTimes.{tag-again, bounded-held}
 
 pub tag-kept : TagKept
-tag-kept t b = tag-again t (bounded-held t b)
+tag-kept leaps t b = tag-again t (bounded-held leaps t b)

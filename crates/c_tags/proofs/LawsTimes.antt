@@ -1,11 +1,12 @@
 -- The seven numbers of a tag are read as that tag wherever they fit; those within a tag's bounds do.
 -- Assumes nothing.
-use Prim.Native.Nat.{_≤_}
+use Prim.Native.Nat.{ℕ, _≤_}
+use mathlib.Core.List.{List}
 use mathlib.Core.Path.{_≡_, sym}
 use native.Mathlib.Omega.{arith}
 use Rattle.tag.specs.Promises.{Bounded}
 use Rattle.tag.specs.declared.Tag.{Tag}
-use Rattle.tag.proofs.LawsBounds.{tests, day-below}
+use Rattle.tag.proofs.LawsBounds.{tests, day-below, second-below}
 use Rattle.c_numbers.proofs.LawsNumbers.{within, marked}
 use Rattle.c_tags.specs.Times.{tagFrom, numbersOf}
 
@@ -29,12 +30,12 @@ tag-again t h = λ i. record {
   flywheel = marked (t .flywheel) i;
 }
 
-pub bounded-held : (t : Tag) → Bounded t → Held t
-bounded-held t b = record {
+pub bounded-held : (leaps : List ℕ) (t : Tag) → Bounded leaps t → Held t
+bounded-held leaps t b = record {
   year = omega (arith, b .year);
-  day = omega (arith, day-below t (tests t b));
+  day = omega (arith, day-below leaps t (tests leaps t b));
   hour = omega (arith, b .hour);
   minute = omega (arith, b .minute);
-  second = omega (arith, b .second);
+  second = omega (arith, second-below (b .second));
   ms = omega (arith, b .ms);
 }

@@ -1,4 +1,5 @@
-// Time tags, from C. A time is seven numbers: year, day, hour, minute, second, millisecond and the flywheel mark.
+// Time tags, from C. A time is seven numbers: year, day, hour, minute, second, millisecond and the flywheel mark. The leap days are lent with
+// each call.
 ghost use mathlib.Core.Path.{_≡_};
 ghost use Rattle.tag.specs.Tags.{readTag, writeTag};
 ghost use Rattle.time.specs.Times.{elapsedOf};
@@ -47,22 +48,26 @@ pub fn numbers_of(tag: Tag) -> [u32; 7]
 }
 
 #[no_mangle]
-pub extern "C" fn rahmisve_read_tag(tag: &[u8], time: &mut [u32; 7]) -> u8
-    ensures { λ r. ⌜ r ≡ readTag (now (tag .entry)) .number ⌝ }
-    ensures { λ r. ⌜ now (time .exit) ≡ numbersOf (readTag (now (tag .entry)) .tag) ⌝ }
+pub extern "C" fn rahmisve_read_tag(tag: &[u8], leap_days: &[u32], time: &mut [u32; 7]) -> u8
+    ensures { λ r. ⌜ r ≡ readTag (now («leap_days» .entry)) (now (tag .entry)) .number ⌝ }
+    ensures { λ r. ⌜ now (time .exit) ≡ numbersOf (readTag (now («leap_days» .entry)) (now (tag .entry)) .tag) ⌝ }
 {
-    let found = tag::read_tag(tag);
+    let found = tag::read_tag(tag, leap_days);
     let numbers = found.tag;
     *time = numbers_of(numbers);
     found.number
 }
 
 #[no_mangle]
-pub extern "C" fn rahmisve_write_tag(time: &[u32; 7], tag: &mut [u8; 8]) -> u8
-    ensures { λ r. ⌜ r ≡ writeTag (tagFrom 0 (now (time .entry))) .number ⌝ }
-    ensures { λ r. ⌜ now (tag .exit) ≡ writeTag (tagFrom 0 (now (time .entry))) .bytes ⌝ }
+pub extern "C" fn rahmisve_write_tag(
+    time: &[u32; 7],
+    leap_days: &[u32],
+    tag: &mut [u8; 8],
+) -> u8
+    ensures { λ r. ⌜ r ≡ writeTag (now («leap_days» .entry)) (tagFrom 0 (now (time .entry))) .number ⌝ }
+    ensures { λ r. ⌜ now (tag .exit) ≡ writeTag (now («leap_days» .entry)) (tagFrom 0 (now (time .entry))) .bytes ⌝ }
 {
-    let written = tag::write_tag(tag_of(
+    let numbers = tag_of(
         time[0],
         time[1],
         time[2],
@@ -70,17 +75,23 @@ pub extern "C" fn rahmisve_write_tag(time: &[u32; 7], tag: &mut [u8; 8]) -> u8
         time[4],
         time[5],
         time[6],
-    ));
+    );
+    let written = tag::write_tag(numbers, leap_days);
     let bytes = written.bytes;
     *tag = bytes;
     written.number
 }
 
 #[no_mangle]
-pub extern "C" fn rahmisve_elapsed(from: &[u8], to: &[u8], ms: &mut i64) -> u8
-    ensures { λ r. ⌜ record { number = r; ms = now (ms .exit) } ≡ elapsedOf (now (from .entry)) (now (to .entry)) ⌝ }
+pub extern "C" fn rahmisve_elapsed(
+    from: &[u8],
+    to: &[u8],
+    leap_days: &[u32],
+    ms: &mut i64,
+) -> u8
+    ensures { λ r. ⌜ record { number = r; ms = now (ms .exit) } ≡ elapsedOf (now («leap_days» .entry)) (now (from .entry)) (now (to .entry)) ⌝ }
 {
-    let elapsed = time::elapsed(from, to);
+    let elapsed = time::elapsed(from, to, leap_days);
     let between = elapsed.ms;
     *ms = between;
     elapsed.number

@@ -30,26 +30,26 @@ watch-again w e h = λ i. record { opened = marked (w .opened) i; expected = sym
 idle-again : (limit : ℕ) → watchIn (numbersOfWatch (idle limit)) ≡ idle limit
 idle-again limit = watch-again (idle limit) (omega arith) (record { year = omega arith; day = omega arith; hour = omega arith; minute = omega arith; second = omega arith; ms = omega arith })
 
-module _ (row : List ℕ) (b : ℕ) (s : List ℕ) where
+module _ (leaps row : List ℕ) (b : ℕ) (s : List ℕ) where
   abbrev w : Watch
   w = watchIn row
 
-  open-again : refusalOf w b s ≡ 0 → (n : ℕ) → n ≤ 255 → watchIn (numbersOfWatch (expecting n (tagOf s) (w .limit))) ≡ expecting n (tagOf s) (w .limit)
-  open-again e n h = watch-again (expecting n (tagOf s) (w .limit)) h (bounded-held (tagOf s) (facts (tagOf s) (good-bounds s (accepted-for w b s e .tag))))
+  open-again : refusalOf leaps w b s ≡ 0 → (n : ℕ) → n ≤ 255 → watchIn (numbersOfWatch (expecting n (tagOf s) (w .limit))) ≡ expecting n (tagOf s) (w .limit)
+  open-again e n h = watch-again (expecting n (tagOf s) (w .limit)) h (bounded-held leaps (tagOf s) (facts leaps (tagOf s) (good-bounds leaps s (accepted-for leaps w b s e .tag))))
 
-  followed : {r : Stepped} → Turn w b s r → watchIn (rowAfter r row) ≡ r .next
+  followed : {r : Stepped} → Turn leaps w b s r → watchIn (rowAfter r row) ≡ r .next
   followed (refuses h) = refl
   followed (strays e o z) = refl
   followed (opens e z) = open-again e 1 (omega arith)
   followed (closes e o y) = either (λ (v : Watch). watchIn (numbersOfWatch v) ≡ v) (eqb b 0) (λ _. open-again e 1 (omega arith)) (λ _. idle-again (w .limit))
-  followed (keeps e o m q n) = open-again e (w .expected + 1) (omega (arith, to-ten w (accepted-for w b s e .expected) o))
+  followed (keeps e o m q n) = open-again e (w .expected + 1) (omega (arith, to-ten w (accepted-for leaps w b s e .expected) o))
 
-offers : (row : List ℕ) (os : List Offer) → watchIn (rowsAfter row os) ≡ after (watchIn row) os
+offers : (leaps row : List ℕ) (os : List Offer) → watchIn (rowsAfter leaps row os) ≡ after leaps (watchIn row) os
 unfolding rowsAfter after
-offers row [] = refl
-offers row (o ∷ os) =
-    offers (rowAfter (stepOf (watchIn row) (o .block) (o .tag)) row) os
-    ∙ ap (λ (v : Watch). after v os) (followed row (o .block) (o .tag) (turn (watchIn row) (o .block) (o .tag)))
+offers leaps row [] = refl
+offers leaps row (o ∷ os) =
+    offers leaps (rowAfter (stepOf leaps (watchIn row) (o .block) (o .tag)) row) os
+    ∙ ap (λ (v : Watch). after leaps v os) (followed leaps row (o .block) (o .tag) (turn leaps (watchIn row) (o .block) (o .tag)))
 
 pub row-follows : RowFollows
 row-follows = record {

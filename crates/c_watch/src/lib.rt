@@ -129,14 +129,15 @@ pub extern "C" fn rahmisve_watch_offer(
     watch: &mut [u32; 10],
     block: u32,
     tag: &[u8],
+    leap_days: &[u32],
     verdict: &mut u8,
 ) -> u8
-    ensures { λ r. ⌜ r ≡ numberOf (stepOf (watchIn (now (watch .entry))) (upTo 255 block) (now (tag .entry)) .verdict) ⌝ }
-    ensures { λ r. ⌜ now (verdict .exit) ≡ kindOf (stepOf (watchIn (now (watch .entry))) (upTo 255 block) (now (tag .entry)) .verdict) ⌝ }
-    ensures { λ r. ⌜ now (watch .exit) ≡ rowAfter (stepOf (watchIn (now (watch .entry))) (upTo 255 block) (now (tag .entry))) (now (watch .entry)) ⌝ }
+    ensures { λ r. ⌜ r ≡ numberOf (stepOf (now («leap_days» .entry)) (watchIn (now (watch .entry))) (upTo 255 block) (now (tag .entry)) .verdict) ⌝ }
+    ensures { λ r. ⌜ now (verdict .exit) ≡ kindOf (stepOf (now («leap_days» .entry)) (watchIn (now (watch .entry))) (upTo 255 block) (now (tag .entry)) .verdict) ⌝ }
+    ensures { λ r. ⌜ now (watch .exit) ≡ rowAfter (stepOf (now («leap_days» .entry)) (watchIn (now (watch .entry))) (upTo 255 block) (now (tag .entry))) (now (watch .entry)) ⌝ }
 {
     let row = *watch;
-    let stepped = watch::step(watch_in(row), in_byte(block), tag);
+    let stepped = watch::step(watch_in(row), in_byte(block), tag, leap_days);
     let did = stepped.verdict;
     let number = number_of(did);
     *verdict = code_of(did);

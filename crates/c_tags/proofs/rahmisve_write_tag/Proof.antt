@@ -36,7 +36,7 @@ write-tag-requires c κs = search needs
 
 returns : tie.Need-returns
 returns c =
-    let e = c .before .write-tag .ensures ∙ ap writeTag (c .before .before .tag-of .ensures) in
+    let e = c .before .write-tag .ensures ∙ ap (writeTag _) (c .before .before .tag-of .ensures) in
     (ap (λ (w : TagBytes). w .number) e, ap (λ (w : TagBytes). w .bytes) e)
 
 pub rahmisve-write-tag-spec : {M : Type 1} → statement M
