@@ -53,7 +53,14 @@ settled =
         λ _ _ x y. (same (x .allowed) (y .allowed), refl),
         λ _ _ x y. (same (x .allowed) (y .allowed), refl),
       );
+      calendar = (
+        λ _ _ x y. (same (x .allowed) (y .allowed), refl),
+        λ _ _ x y. (same (x .allowed) (y .allowed), refl),
+        λ _ _ x y. (same (x .allowed) (y .allowed), refl),
+        λ _ _ x y. (same (x .allowed .0) (y .allowed .0), refl),
+      );
       tag = (
+        λ _ _ x y. (same (x .allowed) (y .allowed), refl),
         λ _ _ x y. (same (x .allowed) (y .allowed), refl),
         λ _ _ x y. (same (x .allowed) (y .allowed), refl),
         λ _ _ x y. (same (x .allowed) (y .allowed), refl),
@@ -66,7 +73,7 @@ settled =
       watch = (
         λ _ _ x y. (same (x .allowed) (y .allowed), refl),
         λ _ _ x y. (same (x .allowed) (y .allowed), refl),
-        λ _ _ x y. (same (x .allowed .1) (y .allowed .1), λ i. (same (x .allowed .0) (y .allowed .0) i, (tt, (tt, tt)))),
+        λ _ _ x y. (same (x .allowed .1) (y .allowed .1), λ i. (same (x .allowed .0) (y .allowed .0) i, (tt, (tt, (tt, tt))))),
       );
       recording = (
         λ _ _ x y. (same (x .allowed) (y .allowed), refl),
@@ -123,13 +130,13 @@ settled =
       c-tags = (
         λ _ _ x y. (same (x .allowed) (y .allowed), refl),
         λ _ _ x y. (same (x .allowed) (y .allowed), refl),
-        λ _ _ x y. (same (x .allowed .0) (y .allowed .0), λ i. (tt, (same (x .allowed .1) (y .allowed .1) i, tt))),
-        λ _ _ x y. (same (x .allowed .0) (y .allowed .0), λ i. (tt, (same (x .allowed .1) (y .allowed .1) i, tt))),
-        λ _ _ x y. let e = same (x .allowed) (y .allowed) in (λ i. e i .number, λ i. (tt, (tt, (e i .ms, tt)))),
+        λ _ _ x y. (same (x .allowed .0) (y .allowed .0), λ i. (tt, (tt, (same (x .allowed .1) (y .allowed .1) i, tt)))),
+        λ _ _ x y. (same (x .allowed .0) (y .allowed .0), λ i. (tt, (tt, (same (x .allowed .1) (y .allowed .1) i, tt)))),
+        λ _ _ x y. let e = same (x .allowed) (y .allowed) in (λ i. e i .number, λ i. (tt, (tt, (tt, (e i .ms, tt))))),
       );
       c-watch = (
         λ _ _ x y. (same (x .allowed .0) (y .allowed .0), λ i. (tt, (same (x .allowed .1) (y .allowed .1) i, tt))),
-        λ _ _ x y. let p = x .allowed in let q = y .allowed in (same (p .0) (q .0), λ i. (same (p .1 .1) (q .1 .1) i, (tt, (tt, (same (p .1 .0) (q .1 .0) i, tt))))),
+        λ _ _ x y. let p = x .allowed in let q = y .allowed in (same (p .0) (q .0), λ i. (same (p .1 .1) (q .1 .1) i, (tt, (tt, (tt, (same (p .1 .0) (q .1 .0) i, tt)))))),
       );
       c-recording = (
         λ _ _ x y. let p = x .allowed in let q = y .allowed in (same (p .0) (q .0), λ i. (tt, (tt, (same (p .1 .0) (q .1 .0) i, (same (p .1 .1 .0) (q .1 .1 .0) i, (same (p .1 .1 .1) (q .1 .1 .1) i, tt)))))),

@@ -12,7 +12,7 @@ use borrow.Author.Tests.{eqb-true, eqb-false, ltb-true, ltb-false, not-true, not
 use Rattle.ground.specs.Choice.{pick}
 use Rattle.ground.specs.Grounds.{Ground, firstOf, NoneHolds}
 use Rattle.ground.proofs.LawsTests.{never, split, neither}
-use Rattle.scope.specs.Notions.{Reason, FirstOf, GivenOnce}
+use Rattle.scope.specs.Notions.{Reason, _if_, FirstOf, GivenOnce}
 
 pub given-once : GivenOnce
 given-once [] m n x y = x ∙ sym y
@@ -86,6 +86,15 @@ first-reason (g ∷ gs) (r ∷ rs) h = by (g .holds) refl (λ e. first-reason gs
     by : (t : Bool) → g .holds ≡ t → (g .holds ≡ false → FirstOf rs (firstOf gs)) → FirstOf (r ∷ rs) (pick t (g .number) (firstOf gs))
     by true e f = inl (h .1 .yes e, h .0)
     by false e f = inr (h .1 .no e, f e)
+
+-- a first reason that does not hold is passed over; the last one may be said in other words
+pub passed-over : (r : Reason) (rs : List Reason) {n : ℕ} → (r .holds → ⊥) → FirstOf (r ∷ rs) n → FirstOf rs n
+passed-over r rs h (inl p) = absurd (h (p .0))
+passed-over r rs h (inr p) = p .1
+
+pub in-other-words : {P Q : Type 0} {k n : ℕ} → P ↔ Q → FirstOf (k if P ∷ []) n → FirstOf (k if Q ∷ []) n
+in-other-words e (inl p) = inl (e .0 (p .0), p .1)
+in-other-words e (inr p) = inr (λ q. p .0 (e .1 q), p .1)
 
 -- none of the reasons holds
 abbrev pub NoReason : List Reason → Type 0

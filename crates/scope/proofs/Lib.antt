@@ -5,9 +5,11 @@ pub mod KeepsSizes
 pub mod KeepsRefusals
 pub mod KeepsRecords
 pub mod KeepsFourRecords
+pub mod KeepsLeapTags
 pub mod KeepsTags
 pub mod KeepsParity
 pub mod KeepsWatch
+pub mod KeepsLeapSeconds
 pub mod KeepsTable
 pub mod KeepsDemands
 pub mod KeepsRecording

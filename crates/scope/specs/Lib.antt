@@ -7,6 +7,7 @@ pub mod Refusals
 pub mod Tags
 pub mod Parity
 pub mod Watch
+pub mod LeapSeconds
 pub mod Table
 pub mod Demands
 pub mod Recording

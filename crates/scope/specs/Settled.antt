@@ -31,8 +31,13 @@ use Rattle.placement.proofs.place
 use Rattle.parity.proofs.parity_of
 use Rattle.parity.proofs.ground_of
 use Rattle.parity.proofs.check_sections
+use Rattle.calendar.proofs.days_in
+use Rattle.calendar.proofs.is_good_list
+use Rattle.calendar.proofs.is_listed
+use Rattle.calendar.proofs.listed_before
 use Rattle.tag.proofs.in_bounds
 use Rattle.tag.proofs.zero_tag
+use Rattle.tag.proofs.read_by as tag_read_by
 use Rattle.tag.proofs.read_tag
 use Rattle.tag.proofs.write_tag
 use Rattle.time.proofs.between
@@ -106,8 +111,10 @@ pub record AllSettled : Type 0 where
   pub placement : Settled place.ended place.Reads.Learnt
   pub parity : Settled parity_of.ended parity_of.Reads.Learnt × Settled ground_of.ended ground_of.Reads.Learnt
       × Settled check_sections.ended check_sections.Reads.Learnt
-  pub tag : Settled in_bounds.ended in_bounds.Reads.Learnt × Settled zero_tag.ended zero_tag.Reads.Learnt × Settled read_tag.ended read_tag.Reads.Learnt
-      × Settled write_tag.ended write_tag.Reads.Learnt
+  pub calendar : Settled days_in.ended days_in.Reads.Learnt × Settled is_good_list.ended is_good_list.Reads.Learnt
+      × Settled is_listed.ended is_listed.Reads.Learnt × Settled listed_before.ended listed_before.Reads.Learnt
+  pub tag : Settled in_bounds.ended in_bounds.Reads.Learnt × Settled zero_tag.ended zero_tag.Reads.Learnt × Settled tag_read_by.ended tag_read_by.Reads.Learnt
+      × Settled read_tag.ended read_tag.Reads.Learnt × Settled write_tag.ended write_tag.Reads.Learnt
   pub time : Settled between.ended between.Reads.Learnt × Settled elapsed.ended elapsed.Reads.Learnt
   pub watch : Settled begin.ended begin.Reads.Learnt × Settled step.ended step.Reads.Learnt × Settled offer.ended offered
   pub recording : Settled front_of.ended front_of.Reads.Learnt × Settled body_length.ended body_length.Reads.Learnt

@@ -1,4 +1,4 @@
--- CDA time tags. Assumes nothing.
+-- CDA time tags, with no leap days: the list lent is the empty one. Assumes nothing.
 use Prim.Native.Nat.{ℕ, _+_, _*_, _/_, _%_, _≤_, _<_}
 use mathlib.Core.Path.{_≡_}
 use mathlib.Core.Logic.{_⊎_, _↔_}
@@ -58,19 +58,19 @@ abbrev pub noTag : Tag
 noTag = record { year = 0; day = 0; hour = 0; minute = 0; second = 0; ms = 0; flywheel = false }
 
 pub record Reading : Type 0 where
-  pub number : (s : List ℕ) → FirstOf (12 if Bad s ∷ []) (readTag s .number)
-  pub taken : (s : List ℕ) → readTag s .number ≡ 0 → Says s (readTag s .tag)
-  pub refused : (s : List ℕ) → (readTag s .number ≡ 0 → ⊥) → readTag s ≡ record { number = 12; tag = noTag }
+  pub number : (s : List ℕ) → FirstOf (12 if Bad s ∷ []) (readTag [] s .number)
+  pub taken : (s : List ℕ) → readTag [] s .number ≡ 0 → Says s (readTag [] s .tag)
+  pub refused : (s : List ℕ) → (readTag [] s .number ≡ 0 → ⊥) → readTag [] s ≡ record { number = 12; tag = noTag }
 
 -- The writer of tags is given the numbers and the mark and makes eight bytes. The bounds are those of reading.
 pub record Writing : Type 0 where
-  pub number : (t : Tag) → FirstOf (12 if (Bounds t → ⊥) ∷ []) (writeTag t .number)
-  pub taken : (t : Tag) → writeTag t .number ≡ 0 → Says (writeTag t .bytes) t × Below 256 (writeTag t .bytes)
-  pub refused : (t : Tag) → (writeTag t .number ≡ 0 → ⊥) → writeTag t ≡ record { number = 12; bytes = replicate 8 0 }
-  pub bounds : (t : Tag) → (inBounds t ≡ true) ↔ Bounds t
+  pub number : (t : Tag) → FirstOf (12 if (Bounds t → ⊥) ∷ []) (writeTag [] t .number)
+  pub taken : (t : Tag) → writeTag [] t .number ≡ 0 → Says (writeTag [] t .bytes) t × Below 256 (writeTag [] t .bytes)
+  pub refused : (t : Tag) → (writeTag [] t .number ≡ 0 → ⊥) → writeTag [] t ≡ record { number = 12; bytes = replicate 8 0 }
+  pub bounds : (t : Tag) → (inBounds [] t ≡ true) ↔ Bounds t
   -- both ways
-  pub read-written : (t : Tag) → writeTag t .number ≡ 0 → readTag (writeTag t .bytes) ≡ record { number = 0; tag = t }
-  pub write-read : (s : List ℕ) → Below 256 s → readTag s .number ≡ 0 → writeTag (readTag s .tag) ≡ record { number = 0; bytes = s }
+  pub read-written : (t : Tag) → writeTag [] t .number ≡ 0 → readTag [] (writeTag [] t .bytes) ≡ record { number = 0; tag = t }
+  pub write-read : (s : List ℕ) → Below 256 s → readTag [] s .number ≡ 0 → writeTag [] (readTag [] s .tag) ≡ record { number = 0; bytes = s }
 
 -- milliseconds since midnight
 abbrev pub ofDay : Tag → ℕ
@@ -78,12 +78,12 @@ ofDay t = t .hour * 3600000 + t .minute * 60000 + t .second * 1000 + t .ms
 
 -- The elapsed time from a first tag to a second is milliseconds with a sign: said day by day. The flywheel mark has no part in it.
 pub record Elapsing : Type 0 where
-  pub number : (a b : List ℕ) → FirstOf (12 if (Bad a ⊎ Bad b) ∷ []) (elapsedOf a b .number)
-  pub refused : (a b : List ℕ) → (elapsedOf a b .number ≡ 0 → ⊥) → elapsedOf a b ≡ record { number = 12; ms = pos 0 }
-  pub taken : (a b : List ℕ) (from to : Tag) → Says a from → Bounds from → Says b to → Bounds to → elapsedOf a b ≡ record { number = 0; ms = between from to }
-  pub in-a-day : (a b : Tag) → a .year ≡ b .year → a .day ≡ b .day → between a b ≡ pos (ofDay b) -ℤ pos (ofDay a)
-  pub next-day : (a b : Tag) → a .year ≡ b .year → a .day + 1 ≡ b .day → ofDay a ≡ ofDay b → between a b ≡ pos 86400000
+  pub number : (a b : List ℕ) → FirstOf (12 if (Bad a ⊎ Bad b) ∷ []) (elapsedOf [] a b .number)
+  pub refused : (a b : List ℕ) → (elapsedOf [] a b .number ≡ 0 → ⊥) → elapsedOf [] a b ≡ record { number = 12; ms = pos 0 }
+  pub taken : (a b : List ℕ) (from to : Tag) → Says a from → Bounds from → Says b to → Bounds to → elapsedOf [] a b ≡ record { number = 0; ms = between [] from to }
+  pub in-a-day : (a b : Tag) → a .year ≡ b .year → a .day ≡ b .day → between [] a b ≡ pos (ofDay b) -ℤ pos (ofDay a)
+  pub next-day : (a b : Tag) → a .year ≡ b .year → a .day + 1 ≡ b .day → ofDay a ≡ ofDay b → between [] a b ≡ pos 86400000
   pub next-year : (a b : Tag) → a .year + 1 ≡ b .year → b .day ≡ 1 → ofDay a ≡ ofDay b
-      → ((a .day ≡ 366) × LeapYear (a .year)) ⊎ ((a .day ≡ 365) × (LeapYear (a .year) → ⊥)) → between a b ≡ pos 86400000
-  pub additive : (a b c : Tag) → between a b +ℤ between b c ≡ between a c
-  pub backward : (a b : Tag) → between b a ≡ negℤ (between a b)
+      → ((a .day ≡ 366) × LeapYear (a .year)) ⊎ ((a .day ≡ 365) × (LeapYear (a .year) → ⊥)) → between [] a b ≡ pos 86400000
+  pub additive : (a b c : Tag) → between [] a b +ℤ between [] b c ≡ between [] a c
+  pub backward : (a b : Tag) → between [] b a ≡ negℤ (between [] a b)

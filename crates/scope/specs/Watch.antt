@@ -1,4 +1,4 @@
--- The scan watch. Assumes nothing.
+-- The scan watch, with no leap days: the list lent is the empty one. Assumes nothing.
 use Prim.Native.Nat.{ℕ, _+_, _<_}
 use mathlib.Core.Path.{_≡_}
 use mathlib.Core.Logic.{_⊎_}
@@ -29,13 +29,14 @@ refusals w b s =
 
 -- What an accepted offer does, by its kind: 1 a stray, 2 opened, 3 kept; closed 4 as clock back, 5 as late, 6 as broken, 7 as complete.
 -- Idle: block 0 opens a scan, any other block is a stray. Open, d being the time from the last tag to the offered one: d is negative (4), d
--- is greater than the limit (5), the block is not the expected one (6), it is block 10 (7); otherwise the scan goes on (3).
-abbrev pub rules : Watch → ℕ → Tag → List Reason
-rules w b t =
+-- is greater than the limit (5), the block is not the expected one (6), it is block 10 (7); otherwise the scan goes on (3). The rules are the
+-- same with a list of leap days, by which d is counted.
+abbrev pub rules : List ℕ → Watch → ℕ → Tag → List Reason
+rules leaps w b t =
     2 if ((w .opened ≡ false) × (b ≡ 0))
     ∷ 1 if (w .opened ≡ false)
-    ∷ 4 if (between (w .last) t <ℤ pos 0)
-    ∷ 5 if (pos (w .limit) <ℤ between (w .last) t)
+    ∷ 4 if (between leaps (w .last) t <ℤ pos 0)
+    ∷ 5 if (pos (w .limit) <ℤ between leaps (w .last) t)
     ∷ 6 if (b ≡ w .expected → ⊥)
     ∷ 7 if (b ≡ 10)
     ∷ 3 if Unit {0}
@@ -44,11 +45,11 @@ rules w b t =
 -- The watch's own promises print its records part by part, and are cited: how it begins, what an offer leaves, what any offers do.
 pub record Watching : Type 0 where
   pub begun : Beginning
-  pub number : (w : Watch) (b : ℕ) (s : List ℕ) → FirstOf (refusals w b s) (numberOf (stepOf w b s .verdict))
-  pub rule : (w : Watch) (b : ℕ) (s : List ℕ) (t : Tag) → Says s t → numberOf (stepOf w b s .verdict) ≡ 0 → FirstOf (rules w b t) (kindOf (stepOf w b s .verdict))
-  pub left : OneOffer
+  pub number : (w : Watch) (b : ℕ) (s : List ℕ) → FirstOf (refusals w b s) (numberOf (stepOf [] w b s .verdict))
+  pub rule : (w : Watch) (b : ℕ) (s : List ℕ) (t : Tag) → Says s t → numberOf (stepOf [] w b s .verdict) ≡ 0 → FirstOf (rules [] w b t) (kindOf (stepOf [] w b s .verdict))
+  pub left : OneOffer []
   -- The scan goes on: the next block is expected, and the tag offered is the last one now.
-  pub kept : (w : Watch) (b : ℕ) (s : List ℕ) → kindOf (stepOf w b s .verdict) ≡ 3
-      → stepOf w b s .next ≡ record { opened = true; expected = w .expected + 1; last = tagOf s; limit = w .limit }
+  pub kept : (w : Watch) (b : ℕ) (s : List ℕ) → kindOf (stepOf [] w b s .verdict) ≡ 3
+      → stepOf [] w b s .next ≡ record { opened = true; expected = w .expected + 1; last = tagOf s; limit = w .limit }
   -- A watch is begun idle and gets any offers. Then a scan that it completes takes no less than 0 and no more than ten limits.
-  pub scans : AnyOffers
+  pub scans : AnyOffers []
