@@ -30,11 +30,12 @@ use Rattle.block.specs.declared.Answer.{Answer}
 use Rattle.parity.specs.Sections.{sectionsOf}
 use Rattle.parity.specs.declared.Layout.the-variants.{ImagerSpacelook, SounderSpacelook}
 use Rattle.tag.specs.Digits.{digitsOf, decimal, valueOf}
-use Rattle.tag.specs.Tags.{inBounds, tagOf, goodTag, readTag}
-use Rattle.time.specs.Times.{timeOf, elapsedOf}
+use Rattle.calendar.specs.Leaps.{risesFrom, goodList, listed, listedBefore}
+use Rattle.tag.specs.Tags.{goodSecond, inBounds, tagOf, goodTag, readTag}
+use Rattle.time.specs.Times.{countOf, timeOf, elapsedOf}
 use Rattle.tag.specs.declared.Tag.{Tag}
 use Rattle.tag.proofs.KeepsTable.{all-differ}
-use Rattle.time.proofs.KeepsTable.{row9}
+use Rattle.time.proofs.KeepsTable.{row9, across-leap}
 use Rattle.time.proofs.LawsYears.{quick}
 use Rattle.watch.specs.Verdicts.{numberOf, kindOf}
 use Rattle.watch.specs.Bounds.{refusalOf}
@@ -119,20 +120,20 @@ changed Opened h = refl
 changed Kept h = refl
 changed (Closed why) h = refl
 
-module _ (row : List ℕ) (block : ℕ) (tag : List ℕ) where
+module _ (leaps row : List ℕ) (block : ℕ) (tag : List ℕ) where
   -- the offer to the watch of numbers that are cut, and to that of the numbers themselves
   abbrev r : Stepped
-  r = stepOf (watchIn row) (upTo 255 block) tag
+  r = stepOf leaps (watchIn row) (upTo 255 block) tag
 
   abbrev q : Stepped
-  q = stepOf (watchAt row) block tag
+  q = stepOf leaps (watchAt row) block tag
 
   did : {verdict : ℕ} → verdict ≡ kindOf (r .verdict) → verdict ≡ code (q .verdict)
-  did e = e ∙ ap kindOf (follows row block tag .did) ∙ code-same (q .verdict)
+  did e = e ∙ ap kindOf (follows leaps row block tag .did) ∙ code-same (q .verdict)
 
   module _ {verdict : ℕ} {after : List ℕ} (e : verdict ≡ kindOf (r .verdict)) (f : after ≡ rowAfter r row) where
     row-by : (t : Bool) → leaves (q .verdict) ≡ t → after ≡ pick t row (numbersOfWatch (r .next))
-    row-by t h = f ∙ ap (λ (x : Bool). pick x row (numbersOfWatch (r .next))) (ap leaves (follows row block tag .did) ∙ h)
+    row-by t h = f ∙ ap (λ (x : Bool). pick x row (numbersOfWatch (r .next))) (ap leaves (follows leaps row block tag .did) ∙ h)
 
     as-it-was : verdict ≤ 1 → after ≡ row
     as-it-was h = row-by true (left (q .verdict) (subst (λ (n : ℕ). n ≤ 1) (did e) h))
@@ -140,7 +141,7 @@ module _ (row : List ℕ) (block : ℕ) (tag : List ℕ) where
     as-next : 2 ≤ verdict → after ≡ watch (q .next)
     as-next h =
         let c : leaves (q .verdict) ≡ false = changed (q .verdict) (subst (λ (n : ℕ). 2 ≤ n) (did e) h) in
-        row-by false c ∙ ap numbersOfWatch (follows row block tag .next c) ∙ watch-same (q .next)
+        row-by false c ∙ ap numbersOfWatch (follows leaps row block tag .next c) ∙ watch-same (q .next)
 
 -- ---- recordings
 
@@ -257,18 +258,18 @@ from-c = record {
   place = λ _ g x. let e = x .allowed ∙ place-cut (g .0) (g .1 .0) (g .1 .1 .0) in (λ i. e i .number, λ i. e i .channel, λ i. e i .detector);
   imager = λ _ g x. (x .allowed .0, x .allowed .1 ∙ four-same (sectionsOf ImagerSpacelook (g .0 .now) .holds));
   sounder = λ _ g x. (x .allowed .0, x .allowed .1 ∙ two-same (sectionsOf SounderSpacelook (g .0 .now) .holds));
-  read-tag = λ _ g x. (x .allowed .0, x .allowed .1 ∙ time-same (readTag (g .0 .now) .tag));
-  write-tag = λ _ g x. let e = write-cut 0 (g .0 .now) in (x .allowed .0 ∙ (λ i. e i .number), x .allowed .1 ∙ (λ i. e i .bytes));
+  read-tag = λ _ g x. (x .allowed .0, x .allowed .1 ∙ time-same (readTag (g .1 .0 .now) (g .0 .now) .tag));
+  write-tag = λ _ g x. let e = write-cut (g .1 .0 .now) 0 (g .0 .now) in (x .allowed .0 ∙ (λ i. e i .number), x .allowed .1 ∙ (λ i. e i .bytes));
   elapsed = λ _ _ x. let e = x .allowed in (λ i. e i .number, λ i. e i .ms);
   begin = λ _ g x. (
     λ h. let e = beginning .taken (g .0) h in (x .allowed .0 ∙ (λ i. e i .number), x .allowed .1 ∙ (λ i. rowBegun (e i) (g .1 .0 .now))),
     λ h. let e = beginning .refused (g .0) h in (x .allowed .0 ∙ (λ i. e i .number), x .allowed .1 ∙ (λ i. rowBegun (e i) (g .1 .0 .now))),
   );
   offer = λ _ g x. let p = x .allowed in (
-    p .0 ∙ ap numberOf (follows (g .0 .now) (g .1 .0) (g .1 .1 .0 .now) .did),
-    did (g .0 .now) (g .1 .0) (g .1 .1 .0 .now) (p .1 .0),
-    as-it-was (g .0 .now) (g .1 .0) (g .1 .1 .0 .now) (p .1 .0) (p .1 .1),
-    as-next (g .0 .now) (g .1 .0) (g .1 .1 .0 .now) (p .1 .0) (p .1 .1),
+    p .0 ∙ ap numberOf (follows (g .1 .1 .1 .0 .now) (g .0 .now) (g .1 .0) (g .1 .1 .0 .now) .did),
+    did (g .1 .1 .1 .0 .now) (g .0 .now) (g .1 .0) (g .1 .1 .0 .now) (p .1 .0),
+    as-it-was (g .1 .1 .1 .0 .now) (g .0 .now) (g .1 .0) (g .1 .1 .0 .now) (p .1 .0) (p .1 .1),
+    as-next (g .1 .1 .1 .0 .now) (g .0 .now) (g .1 .0) (g .1 .1 .0 .now) (p .1 .0) (p .1 .1),
   );
   next = λ _ g x. let p = x .allowed in tells (foundAt (g .0 .now) (g .1 .0)) (p .0) (p .1 .0) (p .1 .1 .0) (p .1 .1 .1);
   line = λ _ g x.
@@ -324,9 +325,9 @@ plan-2 : planOf (2 ∷ 10 ∷ 0 ∷ 86 ∷ 0 ∷ 0 ∷ 0 ∷ 3 ∷ replicate 20 
 unfolding planOf says.numberOf rowOf permits recordsIn fieldBits fieldBytes
 plan-2 = refl
 
-keeps : stepOf (watchIn (1 ∷ 3 ∷ 1987 ∷ 234 ∷ 21 ∷ 43 ∷ 56 ∷ 789 ∷ 1 ∷ 5000 ∷ [])) (upTo 255 3) (0x19 ∷ 0x87 ∷ 0x23 ∷ 0x42 ∷ 0x14 ∷ 0x35 ∷ 0x89 ∷ 0x12 ∷ [])
+keeps : stepOf [] (watchIn (1 ∷ 3 ∷ 1987 ∷ 234 ∷ 21 ∷ 43 ∷ 56 ∷ 789 ∷ 1 ∷ 5000 ∷ [])) (upTo 255 3) (0x19 ∷ 0x87 ∷ 0x23 ∷ 0x42 ∷ 0x14 ∷ 0x35 ∷ 0x89 ∷ 0x12 ∷ [])
     ≡ stepped (expecting 4 (record { year = 1987; day = 234; hour = 21; minute = 43; second = 58; ms = 912; flywheel = false }) 5000) Kept
-unfolding upTo stepOf refusalOf onGood onOpen inTime digitsOf decimal valueOf tagOf inBounds goodTag timeOf
+unfolding upTo stepOf refusalOf onGood onOpen inTime risesFrom goodList listed listedBefore digitsOf decimal valueOf tagOf goodSecond inBounds goodTag countOf timeOf
 keeps = rw (← quick 1987)
 
 found-258 : foundAt (0x01 ∷ 0x01 ∷ 0x02 ∷ replicate 258 0) 0 ≡ Whole 1 3 258
@@ -354,12 +355,13 @@ rows-from-c = record {
   no-place = λ _ g x b.
       let e = x .allowed ∙ place-cut (g .0) (g .1 .0) (g .1 .1 .0) ∙ (λ i. placeOf (b i) (g .1 .0) (g .1 .1 .0)) ∙ unknown-block 256 (g .1 .0) (g .1 .1 .0) (omega arith) in
       (λ i. e i .number, λ i. (tt, (tt, (tt, (e i .channel, (e i .detector, tt))))));
-  read-tag = λ _ g x h. let e = ap readTag h ∙ all-differ in (x .allowed .0 ∙ (λ i. e i .number), λ i. (tt, ((x .allowed .1 ∙ (λ j. numbersOf (e j .tag))) i, tt)));
-  row9 = λ _ g x h k. let e = x .allowed ∙ ap₂ elapsedOf h k ∙ row9 .forward in (λ i. e i .number, λ i. (tt, (tt, (e i .ms, tt))));
-  kept = λ _ g x h b t.
+  read-tag = λ _ g x h d. let e = (λ i. readTag (d i) (h i)) ∙ all-differ in (x .allowed .0 ∙ (λ i. e i .number), λ i. (tt, (tt, ((x .allowed .1 ∙ (λ j. numbersOf (e j .tag))) i, tt))));
+  row9 = λ _ g x h k d. let e = x .allowed ∙ (λ i. elapsedOf (d i) (h i) (k i)) ∙ row9 .forward in (λ i. e i .number, λ i. (tt, (tt, (tt, (e i .ms, tt)))));
+  leap = λ _ g x h k d. let e = x .allowed ∙ (λ i. elapsedOf (d i) (h i) (k i)) ∙ across-leap .with in (λ i. e i .number, λ i. (tt, (tt, (tt, (e i .ms, tt)))));
+  kept = λ _ g x h b t d.
       let p = x .allowed in
-      let e = (λ i. stepOf (watchIn (h i)) (upTo 255 (b i)) (t i)) ∙ keeps in
-      (p .0 ∙ (λ i. numberOf (e i .verdict)), λ i. ((p .1 .1 ∙ (λ j. rowAfter (e j) (h j))) i, (tt, (tt, ((p .1 .0 ∙ (λ j. kindOf (e j .verdict))) i, tt)))));
+      let e = (λ i. stepOf (d i) (watchIn (h i)) (upTo 255 (b i)) (t i)) ∙ keeps in
+      (p .0 ∙ (λ i. numberOf (e i .verdict)), λ i. ((p .1 .1 ∙ (λ j. rowAfter (e j) (h j))) i, (tt, (tt, (tt, ((p .1 .0 ∙ (λ j. kindOf (e j .verdict))) i, tt))))));
   row7 = λ _ g x f s c r.
       let field = g .0 .now in let size = g .1 .0 in let count = g .1 .1 .0 in let room = g .1 .1 .1 .0 .now in (
         x .allowed .0 ∙ take-cut count field room size ∙ (λ i. takeAnswer (s i) (c i) (f i) (length (r i))),

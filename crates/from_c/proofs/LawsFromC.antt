@@ -8,7 +8,7 @@ use mathlib.Core.Logic.{_⊎_, inl, inr, ⊎-elim}
 use mathlib.Core.Bool.{Bool, true, false, not, _&&_, _||_, or-true}
 use mathlib.Core.List.{List}
 use lib.Dec.{eqb, ltb, eqb·suc-zero}
-use lib.ListN.{length, getD}
+use lib.ListN.{length, getD, replicate}
 use borrow.Author.Tests.{eq-eqb, ltb-true, ltb-false, lt-ltb, eqb-true, eqb-false, ne-eqb, not-false}
 use Rattle.ground.specs.Choice.{pick}
 use Rattle.ground.proofs.LawsChoice.{yes, no}
@@ -22,11 +22,12 @@ use Rattle.records.proofs.KeepsRecords.{refuses-in-order, finds}
 use Rattle.placement.specs.Placement.{placeOf}
 use Rattle.placement.proofs.LawsPlacement.{unknown-block, unknown-version, absent}
 use Rattle.placement.proofs.LawsRecords.{at-most-four}
-use Rattle.tag.specs.Tags.{inBounds, tagOf, goodTag, writeTag}
+use Rattle.calendar.specs.Leaps.{goodList}
+use Rattle.tag.specs.Tags.{bytesOf, inBounds, tagOf, goodTag, writeTag}
 use Rattle.tag.specs.Promises.{Bounded}
 use Rattle.tag.specs.declared.Tag.{Tag}
-use Rattle.tag.proofs.LawsBounds.{facts, tests, day-below}
-use Rattle.tag.proofs.KeepsTags.{writing}
+use Rattle.tag.proofs.LawsBounds.{facts, day-below, second-below}
+use Rattle.tag.proofs.LawsTags.{written}
 use Rattle.watch.specs.Bounds.{longestWait, lastOfScan, refusalOf}
 use Rattle.watch.specs.Rules.{expecting, onIdle, onGood, stepOf}
 use Rattle.watch.specs.declared.Watch.{Watch}
@@ -131,7 +132,7 @@ pub on-same : (n : ℕ) → not (eqb n 0) ≡ isOn n
 on-same zero = refl
 on-same (suc n) = ap not (eqb·suc-zero n)
 
-module _ (n : ℕ) (row : List ℕ) where
+module _ (leaps : List ℕ) (n : ℕ) (row : List ℕ) where
   -- cut, and as it is
   abbrev t′ : Tag
   t′ = tagFrom n row
@@ -142,37 +143,41 @@ module _ (n : ℕ) (row : List ℕ) where
   alike : t′ .year ≡ t .year → t′ .day ≡ t .day → t′ .hour ≡ t .hour → t′ .minute ≡ t .minute → t′ .second ≡ t .second → t′ .ms ≡ t .ms → t′ ≡ t
   alike y d h m s k = λ i. record { year = y i; day = d i; hour = h i; minute = m i; second = s i; ms = k i; flywheel = on-same (getD row (n + 6) 0) i }
 
-  cut-in : inBounds t′ ≡ true → t′ ≡ t
+  cut-in : inBounds leaps t′ ≡ true → t′ ≡ t
   cut-in e =
-      let b : Bounded t′ = facts t′ e in
-      let d : t′ .day < 800 = day-below t′ e in
+      let b : Bounded leaps t′ = facts leaps t′ e in
+      let s : t′ .second < 100 = second-below (b .second) in
+      let d : t′ .day < 800 = day-below leaps t′ e in
       alike (below 65535 (t .year) (omega arith)) (below 65535 (t .day) (omega arith)) (below 255 (t .hour) (omega arith)) (below 255 (t .minute) (omega arith))
       (below 255 (t .second) (omega arith)) (below 65535 (t .ms) (omega arith))
 
-  whole-in : inBounds t ≡ true → t′ ≡ t
+  whole-in : inBounds leaps t ≡ true → t′ ≡ t
   whole-in e =
-      let b : Bounded t = facts t e in
-      let d : t .day < 800 = day-below t e in
+      let b : Bounded leaps t = facts leaps t e in
+      let s : t .second < 100 = second-below (b .second) in
+      let d : t .day < 800 = day-below leaps t e in
       alike (kept 65535 (t .year) (omega arith)) (kept 65535 (t .day) (omega arith)) (kept 255 (t .hour) (omega arith)) (kept 255 (t .minute) (omega arith))
       (kept 255 (t .second) (omega arith)) (kept 65535 (t .ms) (omega arith))
 
-  pub bounds-cut : inBounds t′ ≡ inBounds t
-  bounds-cut = go (inBounds t′) (inBounds t) refl refl
+  pub bounds-cut : inBounds leaps t′ ≡ inBounds leaps t
+  bounds-cut = go (inBounds leaps t′) (inBounds leaps t) refl refl
     where
-      go : (x y : Bool) → inBounds t′ ≡ x → inBounds t ≡ y → x ≡ y
-      go true y e f = sym e ∙ ap inBounds (cut-in e) ∙ f
-      go false true e f = sym e ∙ ap inBounds (whole-in f) ∙ f
+      go : (x y : Bool) → inBounds leaps t′ ≡ x → inBounds leaps t ≡ y → x ≡ y
+      go true y e f = sym e ∙ ap (inBounds leaps) (cut-in e) ∙ f
+      go false true e f = sym e ∙ ap (inBounds leaps) (whole-in f) ∙ f
       go false false e f = refl
 
-  pub write-cut : writeTag t′ ≡ writeTag t
-  write-cut = go (inBounds t′) refl
-    where
-      bad : (u : Tag) → inBounds u ≡ false → Bounded u → ⊥
-      bad u e b = never (sym e ∙ tests u b)
+  -- a tag out of bounds is written by the list alone, whatever its numbers
+  unwritten : (u : Tag) → inBounds leaps u ≡ false → writeTag leaps u ≡ pick (not (goodList leaps)) (written 19 (replicate 8 0)) (written 12 (replicate 8 0))
+  unfolding writeTag
+  unwritten u e = λ i. pick (not (goodList leaps)) (written 19 (replicate 8 0)) (pick (not (e i)) (written 12 (replicate 8 0)) (written 0 (bytesOf u)))
 
-      go : (x : Bool) → inBounds t′ ≡ x → writeTag t′ ≡ writeTag t
-      go true e = ap writeTag (cut-in e)
-      go false e = writing .refused t′ (bad t′ e) ∙ sym (writing .refused t (bad t (sym bounds-cut ∙ e)))
+  pub write-cut : writeTag leaps t′ ≡ writeTag leaps t
+  write-cut = go (inBounds leaps t′) refl
+    where
+      go : (x : Bool) → inBounds leaps t′ ≡ x → writeTag leaps t′ ≡ writeTag leaps t
+      go true e = ap (writeTag leaps) (cut-in e)
+      go false e = unwritten t′ e ∙ sym (unwritten t (sym bounds-cut ∙ e))
 
 -- ---- recordings
 
@@ -191,19 +196,19 @@ module _ (before : ℕ) (body : List ℕ) where
 far : (n : ℕ) → 255 < n → ltb n 1 || ltb 10 n ≡ true
 far n l = ap (λ (x : Bool). ltb n 1 || x) (lt-ltb 10 n (omega arith)) ∙ or-true (ltb n 1)
 
-refusing : (w : Watch) (b : ℕ) (s : List ℕ) → (refusalOf w b s ≡ 0 → ⊥) → stepOf w b s ≡ stepped w (Refused (refusalOf w b s))
+refusing : (leaps : List ℕ) (w : Watch) (b : ℕ) (s : List ℕ) → (refusalOf leaps w b s ≡ 0 → ⊥) → stepOf leaps w b s ≡ stepped w (Refused (refusalOf leaps w b s))
 unfolding stepOf
-refusing w b s h = sym (no _ refl (ne-eqb (refusalOf w b s) 0 h) refl)
+refusing leaps w b s h = sym (no _ refl (ne-eqb (refusalOf leaps w b s) 0 h) refl)
 
 -- an accepted offer to an idle watch
-module _ (w : Watch) (b : ℕ) (s : List ℕ) (e : refusalOf w b s ≡ 0) (o : w .opened ≡ false) where
-  opened-at : b ≡ 0 → stepOf w b s ≡ stepped (expecting 1 (tagOf s) (w .limit)) Opened
+module _ (leaps : List ℕ) (w : Watch) (b : ℕ) (s : List ℕ) (e : refusalOf leaps w b s ≡ 0) (o : w .opened ≡ false) where
+  opened-at : b ≡ 0 → stepOf leaps w b s ≡ stepped (expecting 1 (tagOf s) (w .limit)) Opened
   unfolding stepOf onGood onIdle
-  opened-at z = sym (yes _ refl (eq-eqb (refusalOf w b s) 0 e) (no _ refl o (yes _ refl (eq-eqb b 0 z) refl)))
+  opened-at z = sym (yes _ refl (eq-eqb (refusalOf leaps w b s) 0 e) (no _ refl o (yes _ refl (eq-eqb b 0 z) refl)))
 
-  strayed-at : (b ≡ 0 → ⊥) → stepOf w b s ≡ stepped w Stray
+  strayed-at : (b ≡ 0 → ⊥) → stepOf leaps w b s ≡ stepped w Stray
   unfolding stepOf onGood onIdle
-  strayed-at n = sym (yes _ refl (eq-eqb (refusalOf w b s) 0 e) (no _ refl o (no _ refl (ne-eqb b 0 n) refl)))
+  strayed-at n = sym (yes _ refl (eq-eqb (refusalOf leaps w b s) 0 e) (no _ refl o (no _ refl (ne-eqb b 0 n) refl)))
 
 -- what an offer did, and the watch that it leaves
 pub record Follows (r q : Stepped) : Type 0 where
@@ -220,7 +225,7 @@ left h e f = record {
   next = λ n. never (sym n ∙ ap (λ (x : Stepped). leaves (x .verdict)) f ∙ h);
 }
 
-module _ (row : List ℕ) (block : ℕ) (s : List ℕ) where
+module _ (leaps row : List ℕ) (block : ℕ) (s : List ℕ) where
   abbrev w′ : Watch
   w′ = watchIn row
 
@@ -230,23 +235,24 @@ module _ (row : List ℕ) (block : ℕ) (s : List ℕ) where
   abbrev b′ : ℕ
   b′ = upTo 255 block
 
-  number-cut : refusalOf w′ b′ s ≡ refusalOf w block s
+  number-cut : refusalOf leaps w′ b′ s ≡ refusalOf leaps w block s
   unfolding refusalOf
   number-cut = λ i.
       pick (ltb longestWait (w .limit)) 16
       (pick (on-same (getD row 0 0) i && cut-test (λ n. ltb n 1 || ltb lastOfScan n) refl far (getD row 1 0) i) 13
-      (pick (on-same (getD row 0 0) i && not (bounds-cut 2 row i)) 12
-      (pick (cut-test (λ n. ltb lastBlock n) refl (λ n l. lt-ltb 11 n (omega arith)) block i) 4 (pick (not (goodTag s)) 12 0))))
+      (pick (not (goodList leaps)) 19
+      (pick (on-same (getD row 0 0) i && not (bounds-cut leaps 2 row i)) 12
+      (pick (cut-test (λ n. ltb lastBlock n) refl (λ n l. lt-ltb 11 n (omega arith)) block i) 4 (pick (not (goodTag leaps s)) 12 0)))))
 
-  module _ (e : refusalOf w block s ≡ 0) where
+  module _ (e : refusalOf leaps w block s ≡ 0) where
     same-block : b′ ≡ block
-    same-block = kept 255 block (omega (arith, ltb-false lastBlock block (accepted-for w block s e .block)))
+    same-block = kept 255 block (omega (arith, ltb-false lastBlock block (accepted-for leaps w block s e .block)))
 
     same-watch : w .opened ≡ true → w′ ≡ w
     same-watch o = λ i. record {
       opened = on-same (getD row 0 0) i;
-      expected = kept 255 (getD row 1 0) (omega (arith, to-ten w (accepted-for w block s e .expected) o)) i;
-      last = whole-in 2 row (good (w .opened) (inBounds (w .last)) o (accepted-for w block s e .last)) i;
+      expected = kept 255 (getD row 1 0) (omega (arith, to-ten w (accepted-for leaps w block s e .expected) o)) i;
+      last = whole-in leaps 2 row (good (w .opened) (inBounds leaps (w .last)) o (accepted-for leaps w block s e .last)) i;
       limit = w .limit;
     }
       where
@@ -254,22 +260,22 @@ module _ (row : List ℕ) (block : ℕ) (s : List ℕ) where
         good true y o h = not-false y h
         good false y o h = never o
 
-    when-idle : w .opened ≡ false → Follows (stepOf w′ b′ s) (stepOf w block s)
+    when-idle : w .opened ≡ false → Follows (stepOf leaps w′ b′ s) (stepOf leaps w block s)
     when-idle o = go (eqb block 0) refl
       where
-        go : (x : Bool) → eqb block 0 ≡ x → Follows (stepOf w′ b′ s) (stepOf w block s)
-        go true z = let b = eqb-true block 0 z in equal (opened-at w′ b′ s (number-cut ∙ e) (on-same (getD row 0 0) ∙ o) (same-block ∙ b) ∙ sym (opened-at w block s e o b))
-        go false z = let b = eqb-false block 0 z in left refl (strayed-at w′ b′ s (number-cut ∙ e) (on-same (getD row 0 0) ∙ o) (λ n. b (sym same-block ∙ n))) (strayed-at w block s e o b)
+        go : (x : Bool) → eqb block 0 ≡ x → Follows (stepOf leaps w′ b′ s) (stepOf leaps w block s)
+        go true z = let b = eqb-true block 0 z in equal (opened-at leaps w′ b′ s (number-cut ∙ e) (on-same (getD row 0 0) ∙ o) (same-block ∙ b) ∙ sym (opened-at leaps w block s e o b))
+        go false z = let b = eqb-false block 0 z in left refl (strayed-at leaps w′ b′ s (number-cut ∙ e) (on-same (getD row 0 0) ∙ o) (λ n. b (sym same-block ∙ n))) (strayed-at leaps w block s e o b)
 
-    when-taken : (x : Bool) → w .opened ≡ x → Follows (stepOf w′ b′ s) (stepOf w block s)
-    when-taken true o = equal (ap₂ (λ (v : Watch) (n : ℕ). stepOf v n s) (same-watch o) same-block)
+    when-taken : (x : Bool) → w .opened ≡ x → Follows (stepOf leaps w′ b′ s) (stepOf leaps w block s)
+    when-taken true o = equal (ap₂ (λ (v : Watch) (n : ℕ). stepOf leaps v n s) (same-watch o) same-block)
     when-taken false o = when-idle o
 
-  pub follows : Follows (stepOf w′ b′ s) (stepOf w block s)
-  follows = go (eqb (refusalOf w block s) 0) refl
+  pub follows : Follows (stepOf leaps w′ b′ s) (stepOf leaps w block s)
+  follows = go (eqb (refusalOf leaps w block s) 0) refl
     where
-      go : (x : Bool) → eqb (refusalOf w block s) 0 ≡ x → Follows (stepOf w′ b′ s) (stepOf w block s)
-      go true z = when-taken (eqb-true (refusalOf w block s) 0 z) (w .opened) refl
+      go : (x : Bool) → eqb (refusalOf leaps w block s) 0 ≡ x → Follows (stepOf leaps w′ b′ s) (stepOf leaps w block s)
+      go true z = when-taken (eqb-true (refusalOf leaps w block s) 0 z) (w .opened) refl
       go false z =
-          let h = eqb-false (refusalOf w block s) 0 z in
-          left refl (refusing w′ b′ s (λ e. h (sym number-cut ∙ e)) ∙ ap (λ (n : ℕ). stepped w′ (Refused n)) number-cut) (refusing w block s h)
+          let h = eqb-false (refusalOf leaps w block s) 0 z in
+          left refl (refusing leaps w′ b′ s (λ e. h (sym number-cut ∙ e)) ∙ ap (λ (n : ℕ). stepped w′ (Refused n)) number-cut) (refusing leaps w block s h)
