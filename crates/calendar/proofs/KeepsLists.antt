@@ -13,7 +13,7 @@ use borrow.Author.Tests.{eqb-true, eq-eqb, le-leb, leb-true, lt-ltb, le-ltb, ltb
 use Rattle.ground.specs.Choice.{pick}
 use Rattle.ground.proofs.LawsTests.{never, both, first, second}
 use Rattle.calendar.specs.Years.{leap, daysIn}
-use Rattle.calendar.specs.Leaps.{mostLeaps, possible, risesFrom, goodList, listed, listedBefore}
+use Rattle.calendar.specs.Leaps.{mostLeaps, possible, follows, risesFrom, goodList, listed, listedBefore}
 use Rattle.calendar.specs.Promises.{IsDay, IsList, InList, Passed, Lists}
 use Rattle.calendar.proofs.LawsLists.{short}
 use Rattle.calendar.proofs.LawsLeaps.{at-most-1}
@@ -60,8 +60,8 @@ tests-rise : (n : ℕ) (leaps : List ℕ) → risesFrom n leaps ≡ true → Ris
 unfolding risesFrom
 tests-rise n [] h = record { days = λ i p. absurd (omega arith); rising = λ i p. absurd (omega arith); from = λ p. absurd (omega arith) }
 tests-rise n (d ∷ ds) h =
-    let front : ltb n d && possible d ≡ true = first _ (risesFrom d ds) h in
-    let rest : Rises d ds = tests-rise d ds (second (ltb n d && possible d) _ h) in
+    let front : follows n d ≡ true = first _ (risesFrom d ds) h in
+    let rest : Rises d ds = tests-rise d ds (second (follows n d) _ h) in
     record { days = days (is-day d (second (ltb n d) _ front)) (rest .days); rising = rising rest; from = λ p. ltb-true n d (first (ltb n d) _ front) }
   where
     days : IsDay d → ((i : ℕ) → i < length ds → IsDay (getD ds i 0)) → (i : ℕ) → i < length (d ∷ ds) → IsDay (getD (d ∷ ds) i 0)
@@ -125,7 +125,7 @@ unfolding risesFrom listedBefore
 none-from [] d n h l = refl
 none-from (e ∷ es) d n h l =
     let above : d < e = ltb-true d e (first (ltb d e) _ (first _ (risesFrom e es) h)) in
-    rw (le-ltb e n (omega arith)) (omega (arith, none-from es e n (second (ltb d e && possible e) _ h) (omega arith)))
+    rw (le-ltb e n (omega arith)) (omega (arith, none-from es e n (second (follows d e) _ h) (omega arith)))
 
 at-most : (leaps : List ℕ) (n : ℕ) → listedBefore leaps n ≤ length leaps
 unfolding listedBefore
@@ -138,7 +138,7 @@ before [] low n h i l = absurd (omega arith)
 before (d ∷ ds) low n h i l = by (ltb d n) refl i l (before ds d n rest)
   where
     rest : risesFrom d ds ≡ true
-    rest = second (ltb low d && possible d) _ h
+    rest = second (follows low d) _ h
 
     by : (t : Bool) → ltb d n ≡ t → (i : ℕ) → i < length (d ∷ ds) → ((i : ℕ) → i < length ds → (getD ds i 0 < n) ↔ (i < listedBefore ds n))
         → (getD (d ∷ ds) i 0 < n) ↔ (i < pick t 1 0 + listedBefore ds n)

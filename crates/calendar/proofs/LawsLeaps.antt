@@ -11,7 +11,7 @@ use lib.Seq.{length-take-le, take-all}
 use Rattle.ground.specs.Choice.{pick}
 use Rattle.ground.proofs.LawsWalk as Walk
 use Rattle.ground.proofs.LawsWalk.{Walking, step, here, finish}
-use Rattle.calendar.specs.Leaps.{mostLeaps, possible, risesFrom, listed, listedBefore}
+use Rattle.calendar.specs.Leaps.{mostLeaps, follows, risesFrom, listed, listedBefore}
 
 or-assoc : (a b c : Bool) → (a || b) || c ≡ a || (b || c)
 or-assoc true b c = refl
@@ -74,7 +74,7 @@ module _ (leaps : List ℕ) where
 
   module _ {before i : ℕ} (s : Rising before i) where
     abbrev test : Bool
-    test = ltb before (getD leaps i 0) && possible (getD leaps i 0)
+    test = follows before (getD leaps i 0)
 
     pub rise-next : {t : Bool} → i < length leaps → t ≡ test → t ≡ true → Rising (getD leaps i 0) (i + 1)
     unfolding risesFrom

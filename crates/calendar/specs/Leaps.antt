@@ -21,10 +21,14 @@ dayOf year day = year * 1000 + day
 unfoldable pub possible : ℕ → Bool
 possible n = leb (n / 1000) lastYear && (leb 1 (n % 1000) && leb (n % 1000) (daysIn (n / 1000)))
 
--- Possible days, each behind the one before it, the first behind n.
+-- A possible day behind n.
+abbrev pub follows : ℕ → ℕ → Bool
+follows n d = ltb n d && possible d
+
+-- Days that follow one another, the first behind n.
 unfoldable pub risesFrom : ℕ → List ℕ → Bool
 risesFrom n [] = true
-risesFrom n (d ∷ ds) = (ltb n d && possible d) && risesFrom d ds
+risesFrom n (d ∷ ds) = follows n d && risesFrom d ds
 
 -- No list is longer than 64 days, and its days rise; no possible day has the number 0.
 unfoldable pub goodList : List ℕ → Bool

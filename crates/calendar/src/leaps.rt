@@ -1,11 +1,10 @@
 // Lists of leap days. Each walk is over at most the days that are lent.
 ghost use mathlib.Core.Path.{_≡_};
-ghost use mathlib.Core.Bool.{_&&_};
 ghost use Prim.Native.Nat.{_+_, _*_, _≤_};
 ghost use lib.Dec.{ltb};
 ghost use lib.ListN.{length, take};
 ghost use Rattle.ground.specs.Choice.{pick};
-ghost use Rattle.calendar.specs.Leaps.{possible, risesFrom, goodList, listed, listedBefore, dayOf};
+ghost use Rattle.calendar.specs.Leaps.{possible, follows, risesFrom, goodList, listed, listedBefore, dayOf};
 use crate::years;
 
 pub const MOST_LEAP_DAYS: usize = 64;
@@ -34,7 +33,7 @@ fn is_possible(number: u32) -> bool
 
 // A possible day behind the one before it.
 fn follows(before: u32, number: u32) -> bool
-    ensures { λ r. ⌜ r ≡ ltb before number && possible number ⌝ }
+    ensures { λ r. ⌜ r ≡ follows before number ⌝ }
 {
     let possible = is_possible(number);
     (before < number) & possible
