@@ -59,11 +59,7 @@ pub extern "C" fn rahmisve_read_tag(tag: &[u8], leap_days: &[u32], time: &mut [u
 }
 
 #[no_mangle]
-pub extern "C" fn rahmisve_write_tag(
-    time: &[u32; 7],
-    leap_days: &[u32],
-    tag: &mut [u8; 8],
-) -> u8
+pub extern "C" fn rahmisve_write_tag(time: &[u32; 7], leap_days: &[u32], tag: &mut [u8; 8]) -> u8
     ensures { λ r. ⌜ r ≡ writeTag (now («leap_days» .entry)) (tagFrom 0 (now (time .entry))) .number ⌝ }
     ensures { λ r. ⌜ now (tag .exit) ≡ writeTag (now («leap_days» .entry)) (tagFrom 0 (now (time .entry))) .bytes ⌝ }
 {
@@ -83,12 +79,7 @@ pub extern "C" fn rahmisve_write_tag(
 }
 
 #[no_mangle]
-pub extern "C" fn rahmisve_elapsed(
-    from: &[u8],
-    to: &[u8],
-    leap_days: &[u32],
-    ms: &mut i64,
-) -> u8
+pub extern "C" fn rahmisve_elapsed(from: &[u8], to: &[u8], leap_days: &[u32], ms: &mut i64) -> u8
     ensures { λ r. ⌜ record { number = r; ms = now (ms .exit) } ≡ elapsedOf (now («leap_days» .entry)) (now (from .entry)) (now (to .entry)) ⌝ }
 {
     let elapsed = time::elapsed(from, to, leap_days);

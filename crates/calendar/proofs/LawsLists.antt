@@ -1,7 +1,7 @@
 -- What callers cite of lists: the empty list is one, the first 64 days of a list are all of it, and a later day has at least as many listed
 -- days before it, one more where the earlier one is listed.
 -- Assumes nothing.
-use mathlib.Core.Path.{_≡_, refl, sym, _∙_}
+use mathlib.Core.Path.{_≡_, refl}
 use Prim.Native.Nat.{ℕ, _+_, _≤_, _<_}
 use native.Mathlib.Omega.{arith}
 use mathlib.Core.Bool.{Bool, true, false, _||_}

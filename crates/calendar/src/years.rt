@@ -19,5 +19,9 @@ fn is_leap(year: u16) -> bool
 pub fn days_in(year: u16) -> u16
     ensures { λ r. ⌜ r ≡ daysIn year ⌝ }
 {
-    if is_leap(year) { DAYS_OF_LEAP_YEAR } else { DAYS }
+    if is_leap(year) {
+        DAYS_OF_LEAP_YEAR
+    } else {
+        DAYS
+    }
 }

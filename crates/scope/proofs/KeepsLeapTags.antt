@@ -16,14 +16,14 @@ use Rattle.ground.proofs.LawsTests.{never, split}
 use Rattle.bits.specs.Bits.{Below}
 use Rattle.bits.proofs.LawsBelow.{below-at}
 use Rattle.calendar.specs.Years.{leap, daysIn}
-use Rattle.calendar.specs.Leaps.{goodList, listedBefore}
+use Rattle.calendar.specs.Leaps.{goodList}
 use Rattle.calendar.specs.Promises as Days
 use Rattle.calendar.specs.Promises.{IsDay, IsList}
 use Rattle.calendar.proofs.LawsLists.{none-before}
 use Rattle.calendar.proofs.KeepsLists.{is-list, list-is, lists}
 use Rattle.tag.specs.Digits.{digitsOf}
 use Rattle.tag.specs.Tags.{tagDigits, tagOf, bytesOf, inBounds, goodTag, readTag, writeTag}
-use Rattle.time.specs.Times.{countOf, timeOf, between, elapsedOf}
+use Rattle.time.specs.Times.{timeOf, between, elapsedOf}
 use Rattle.tag.specs.Promises.{LeapSecond, IsTag, Bounded}
 use Rattle.tag.specs.declared.Tag.{Tag}
 use Rattle.tag.specs.declared.TagRead.{TagRead}
@@ -284,7 +284,6 @@ module _ (leaps : List ℕ) where
     taken = taken;
     refused = read-refused;
   }
-
 
   -- ---- writing
 

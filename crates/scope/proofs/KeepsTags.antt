@@ -9,23 +9,19 @@ use mathlib.Core.List.{List, [], _∷_}
 use native.Mathlib.Numerals.{add-one}
 use native.Mathlib.Omega.{arith}
 use lib.Dec.{ltb}
-use lib.IntN.{ℤ, pos, negsuc, _-ℤ_, +ℤ-negℤ-cancel}
+use lib.IntN.{pos, negsuc, _-ℤ_, +ℤ-negℤ-cancel}
 use borrow.Author.Tests.{ltb-true, ltb-false, lt-ltb, le-ltb}
 use Rattle.ground.specs.Choice.{pick}
 use Rattle.calendar.specs.Years.{leap, daysIn}
 use Rattle.calendar.proofs.LawsLists.{none-good, none-before}
 use Rattle.calendar.proofs.KeepsLists.{is-list}
 use Rattle.time.specs.Years.{daysBefore}
-use Rattle.tag.specs.Tags.{inBounds, readTag, writeTag}
-use Rattle.time.specs.Times.{countOf, timeOf, between, elapsedOf}
+use Rattle.time.specs.Times.{countOf, timeOf, between}
 use Rattle.tag.specs.declared.Tag.{Tag}
-use Rattle.tag.specs.declared.TagRead.{TagRead}
-use Rattle.tag.specs.declared.TagBytes.{TagBytes}
-use Rattle.time.specs.declared.count.Elapsed.{Elapsed}
 use Rattle.time.proofs.LawsTimes.{minus}
 use Rattle.time.proofs.KeepsTimes as Times
-use Rattle.scope.specs.Notions.{Reason, _if_, FirstOf}
-use Rattle.scope.specs.Tags.{Says, LeapYear, Bounds, Bad, noTag, ofDay, Reading, Writing, Elapsing}
+use Rattle.scope.specs.Notions.{_if_, FirstOf}
+use Rattle.scope.specs.Tags.{LeapYear, Bounds, Bad, ofDay, Reading, Writing, Elapsing}
 use Rattle.scope.specs.LeapSeconds as Leap
 use Rattle.scope.proofs.LawsReasons.{Tells, passed-over, in-other-words}
 use Rattle.scope.proofs.KeepsLeapTags as Kept

@@ -99,17 +99,7 @@ fn refused(number: u8) -> TagRead
 }
 
 // Eight bytes, one by one.
-fn read_eight(
-    a: u8,
-    b: u8,
-    c: u8,
-    d: u8,
-    e: u8,
-    f: u8,
-    g: u8,
-    h: u8,
-    leaps: &[u32],
-) -> TagRead
+fn read_eight(a: u8, b: u8, c: u8, d: u8, e: u8, f: u8, g: u8, h: u8, leaps: &[u32]) -> TagRead
     ensures { λ r. ⌜ r ≡ readBy (now (leaps .entry)) (a ∷ b ∷ c ∷ d ∷ e ∷ f ∷ g ∷ h ∷ []) ⌝ }
 {
     let tag = digits::tag_of(a, b, c, d, e, f, g, h);

@@ -1,7 +1,6 @@
 -- `calendar::leaps::one_before` picks by the comparison, as the definition does.
 -- Assumes nothing.
 use mathlib.Core.Path.{refl}
-use borrow.Author.Needs.{needs}
 use borrow.Author.Tests.{lt-ltb, le-ltb}
 use Rattle.ground.proofs.LawsChoice.{yes, no}
 use Rattle.calendar.proofs.leaps.one_before.Statement.{statement}
