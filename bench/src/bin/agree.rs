@@ -1,8 +1,11 @@
-//! agree SEED COUNT: the three baselines against the model, and plain C's search for blocks against the library's.
+//! agree SEED COUNT: the three baselines against the model, with tags and leap days too, and plain C's search for blocks
+//! against the library's.
 
+use bench::agree_tags::Compared;
 use bench::search::{Rooms, LIBRARY, PLAIN};
-use bench::{Way, BASELINES};
+use bench::{tags, Way, BASELINES};
 use independent::compare::{case_of, Case};
+use independent::compare_leaps::leap_case_of;
 use independent::header::sealed;
 use independent::inputs::{draft, Dice};
 use independent::library::{Library, Model};
@@ -111,6 +114,18 @@ fn salvaging(dice: &mut Dice) -> Rooms {
     found
 }
 
+/// Tags, elapsed time and offers, with lists of leap days good and bad.
+fn tagging(seed: u64, count: u64) -> Compared {
+    let mut compared = Compared::default();
+    for number in 0..count {
+        let case = leap_case_of(seed, number);
+        for way in &tags::BASELINES {
+            compared.compare(way, &case);
+        }
+    }
+    compared
+}
+
 fn main() {
     let numbers: Vec<u64> = std::env::args().skip(1).filter_map(|text| text.parse().ok()).collect();
     let [seed, count] = numbers[..] else {
@@ -119,6 +134,7 @@ fn main() {
     };
     let mut runs = [0; 5];
     let mut searches = [0; 3];
+    let tagged = tagging(seed, count);
     for number in 0..count {
         let case = case_of(seed, number);
         let mut dice = Dice::for_case(!seed, number);
@@ -160,8 +176,11 @@ fn main() {
     let [searches, salvaged, blocks] = searches;
     println!(
         "{} baselines agree with the model: {checks} check words, {reads} reads ({accepted} accepted), \
-         {writes} writes, {packs} packings; and plain C's search with the library's: {searches} inputs ({salvaged} \
-         accepted, {blocks} blocks)",
-        BASELINES.len()
+         {writes} writes, {packs} packings, {} calls on tags ({} with a bad list of leap days, {} refused for something \
+         else); and plain C's search with the library's: {searches} inputs ({salvaged} accepted, {blocks} blocks)",
+        BASELINES.len(),
+        tagged.calls,
+        tagged.bad_list,
+        tagged.refused
     );
 }
