@@ -1,13 +1,13 @@
 // Makes a recording on standard output, through the proved writers, so that a newcomer has something to list and to watch: a whole scan of
-// version 2, blocks 11 of every version and size, damaged fields, three scans that a watch with a limit of 5,000 ms closes early, and
-// block 2 with three records and with four.
+// version 2, blocks 11 of every version and size, damaged fields, three scans that a watch with a limit of 5,000 ms closes early, a whole
+// scan over a leap second, and block 2 with three records and with four.
 ghost use Prim.Native.Nat.{_+_, _<_};
 use header::EXTRA_WORDS;
 use libc::STDERR_FILENO;
 use libc::STDOUT_FILENO;
 use tag::Tag;
 
-// The infrared pixels of the whole scan, and of those that are closed early.
+// The infrared pixels of the first scan, and of all others.
 const PIXELS: u16 = 100;
 
 const FEW_PIXELS: u16 = 1;
@@ -20,27 +20,69 @@ const MOST_WORDS: usize = 10720;
 // Where a header has its SPS time: words 17 to 24.
 const TIME: usize = 16;
 
-// What a block is made of: numbers of its header, and its SPS time in milliseconds behind the midnight that begins 2008 day 60.
+// Times are milliseconds behind 23:59:00.000 of one of two days of 2008. The later one, and so the year, ended with a leap second.
+const DAY: u16 = 60;
+
+const LEAP_DAY: u16 = 366;
+
+// Where a scan over midnight begins, behind 23:59:00.000.
+const SCAN: u32 = 59500;
+
+// What a block is made of: numbers of its header, and its SPS time.
 struct Block {
     id: u8,
     size: u8,
     words: u16,
     version: u8,
-    time: u32,
+    time: Tag,
 }
 
-// That time as a tag.
-fn tag_of(time: u32) -> [u8; 8] {
-    let tag = Tag {
-        year: 2008,
-        day: (60 + time / 86400000) as u16,
-        hour: (time / 3600000 % 24) as u8,
-        minute: (time / 60000 % 60) as u8,
-        second: (time / 1000 % 60) as u8,
-        ms: (time % 1000) as u16,
+// The milliseconds of the last minute of a day of 2008.
+fn last_minute(day: u16) -> u32
+    ensures { λ r. ⌜ r < 61001 ⌝ }
+{
+    if day == LEAP_DAY { 61000 } else { 60000 }
+}
+
+// So many milliseconds behind the midnight that ends a day of 2008, in the first hour.
+fn behind_midnight(day: u16, ms: u32) -> Tag
+    requires { ⌜ day < 367 ⌝ }
+{
+    let is_last = day == LEAP_DAY;
+    Tag {
+        year: if is_last { 2009 } else { 2008 },
+        day: if is_last { 1 } else { day + 1 },
+        hour: 0,
+        minute: (ms / 60000 % 60) as u8,
+        second: (ms / 1000 % 60) as u8,
+        ms: (ms % 1000) as u16,
         flywheel: false,
-    };
-    let written = tag::write_tag(tag);
+    }
+}
+
+// The same behind 23:59:00.000 of the day. Where that minute has 61 seconds, the last of them is second 60.
+fn at(day: u16, ms: u32) -> Tag
+    requires { ⌜ day < 367 ⌝ }
+{
+    let end = last_minute(day);
+    if end <= ms {
+        return behind_midnight(day, ms - end);
+    }
+    Tag {
+        year: 2008,
+        day: day,
+        hour: 23,
+        minute: 59,
+        second: (ms / 1000) as u8,
+        ms: (ms % 1000) as u16,
+        flywheel: false,
+    }
+}
+
+// The eight bytes of a time. One leap day is lent, and on no other is second 60 a good one.
+fn bytes_of(time: Tag) -> [u8; 8] {
+    let leap_days = [2008000 + LEAP_DAY as u32];
+    let written = tag::write_tag(time, &leap_days);
     let bytes = written.bytes;
     bytes
 }
@@ -57,7 +99,7 @@ fn header_of(block: Block) -> [u8; 28]
     header[3] = (count % 256) as u8;
     header[7] = block.version;
     header[8] = 1;
-    let time = tag_of(block.time);
+    let time = bytes_of(block.time);
     room::lay(&time, &mut header, TIME);
     header
 }
@@ -134,7 +176,7 @@ fn put_block(block: Block) -> bool
 }
 
 // A block 1 to 10 of version 2 and of so many infrared pixels.
-fn scanned(number: u8, pixels: u16, time: u32) -> Block
+fn scanned(number: u8, pixels: u16, time: Tag) -> Block
     requires { ⌜ pixels < 5237 ⌝ }
     ensures { λ r. ⌜ r .words < 65534 ⌝ }
 {
@@ -152,7 +194,7 @@ fn scanned(number: u8, pixels: u16, time: u32) -> Block
     }
 }
 
-fn put_scanned(number: u8, pixels: u16, time: u32) -> bool
+fn put_scanned(number: u8, pixels: u16, time: Tag) -> bool
     requires { ⌜ pixels < 5237 ⌝ }
 {
     let block = scanned(number, pixels, time);
@@ -160,7 +202,7 @@ fn put_scanned(number: u8, pixels: u16, time: u32) -> bool
 }
 
 // A block whose count is given: 0 and 11, which have a fixed one, and a block 2 of either row.
-fn put_counted(id: u8, size: u8, words: u16, version: u8, time: u32) -> bool
+fn put_counted(id: u8, size: u8, words: u16, version: u8, time: Tag) -> bool
     requires { ⌜ words < 65534 ⌝ }
 {
     let block = Block {
@@ -173,18 +215,21 @@ fn put_counted(id: u8, size: u8, words: u16, version: u8, time: u32) -> bool
     put_block(block)
 }
 
-fn put_block_0(time: u32) -> bool {
+fn put_block_0(time: Tag) -> bool {
     put_counted(240, 8, 8040, 2, time)
 }
 
-// Blocks 0 to 10, a tenth of a second apart, over midnight: completed.
-fn put_scan() -> bool {
-    if !put_block_0(86399500) {
+// Blocks 0 to 10, so many milliseconds apart, over the end of a day of 2008: completed.
+fn put_scan(day: u16, apart: u16, pixels: u16) -> bool
+    requires { ⌜ day < 367 ⌝ ∗ ⌜ pixels < 5237 ⌝ }
+{
+    if !put_block_0(at(day, SCAN)) {
         return false;
     }
     let mut number: u8 = 1;
     while number <= 10 {
-        if !put_scanned(number, PIXELS, 86399500 + 100 * number as u32) {
+        let time = at(day, SCAN + apart as u32 * number as u32);
+        if !put_scanned(number, pixels, time) {
             return false;
         }
         number += 1;
@@ -193,18 +238,18 @@ fn put_scan() -> bool {
 }
 
 // Blocks 11 of every version and size.
-fn put_blocks_11(time: u32) -> bool
-    requires { ⌜ time + 300 < 4294967296 ⌝ }
+fn put_blocks_11(ms: u32) -> bool
+    requires { ⌜ ms + 300 < 4294967296 ⌝ }
 {
-    put_counted(11, 8, 8040, 0, time)
-        && put_counted(11, 6, 10720, 1, time + 100)
-        && put_counted(11, 10, 6432, 2, time + 200)
-        && put_counted(11, 8, 8040, 3, time + 300)
+    put_counted(11, 8, 8040, 0, at(DAY, ms))
+        && put_counted(11, 6, 10720, 1, at(DAY, ms + 100))
+        && put_counted(11, 10, 6432, 2, at(DAY, ms + 200))
+        && put_counted(11, 8, 8040, 3, at(DAY, ms + 300))
 }
 
 // A header copy hit, which the other two make good; the data hit; a byte missing; another tag; fewer bytes than a header has.
-fn put_hits(time: u32) -> bool {
-    let block = scanned(3, PIXELS, time);
+fn put_hits(ms: u32) -> bool {
+    let block = scanned(3, PIXELS, at(DAY, ms));
     put_damaged(block, recording::BLOCK, 5, 16, 0)
         && put_damaged(block, recording::BLOCK, 200, 1, 0)
         && put_damaged(block, recording::BLOCK, 0, 0, 1)
@@ -213,49 +258,50 @@ fn put_hits(time: u32) -> bool {
 }
 
 // Block 1 comes 5,000 ms after block 0, and block 2 a millisecond more after that: late.
-fn put_late(time: u32) -> bool
-    requires { ⌜ time + 10001 < 4294967296 ⌝ }
+fn put_late(ms: u32) -> bool
+    requires { ⌜ ms + 10001 < 4294967296 ⌝ }
 {
-    put_block_0(time)
-        && put_scanned(1, FEW_PIXELS, time + 5000)
-        && put_scanned(2, FEW_PIXELS, time + 10001)
+    put_block_0(at(DAY, ms))
+        && put_scanned(1, FEW_PIXELS, at(DAY, ms + 5000))
+        && put_scanned(2, FEW_PIXELS, at(DAY, ms + 10001))
 }
 
 // Block 2 has a time one millisecond before that of block 1: clock back.
-fn put_clock_back(time: u32) -> bool
-    requires { ⌜ time + 100 < 4294967296 ⌝ }
+fn put_clock_back(ms: u32) -> bool
+    requires { ⌜ ms + 100 < 4294967296 ⌝ }
 {
-    put_block_0(time)
-        && put_scanned(1, FEW_PIXELS, time + 100)
-        && put_scanned(2, FEW_PIXELS, time + 99)
+    put_block_0(at(DAY, ms))
+        && put_scanned(1, FEW_PIXELS, at(DAY, ms + 100))
+        && put_scanned(2, FEW_PIXELS, at(DAY, ms + 99))
 }
 
 // Block 2 is hit and refused, so that block 3 is not the one expected: broken.
-fn put_broken(time: u32) -> bool
-    requires { ⌜ time + 300 < 4294967296 ⌝ }
+fn put_broken(ms: u32) -> bool
+    requires { ⌜ ms + 300 < 4294967296 ⌝ }
 {
-    let second = scanned(2, FEW_PIXELS, time + 200);
-    put_block_0(time)
-        && put_scanned(1, FEW_PIXELS, time + 100)
+    let second = scanned(2, FEW_PIXELS, at(DAY, ms + 200));
+    put_block_0(at(DAY, ms))
+        && put_scanned(1, FEW_PIXELS, at(DAY, ms + 100))
         && put_damaged(second, recording::BLOCK, 200, 1, 0)
-        && put_scanned(3, FEW_PIXELS, time + 300)
+        && put_scanned(3, FEW_PIXELS, at(DAY, ms + 300))
 }
 
 // Block 2 with 84 words, which suit both its rows: three records of 12 pixels in version 2, four of 5 in version 3.
-fn put_second(time: u32) -> bool
-    requires { ⌜ time + 100 < 4294967296 ⌝ }
+fn put_second(ms: u32) -> bool
+    requires { ⌜ ms + 100 < 4294967296 ⌝ }
 {
-    put_counted(2, 10, 84, 2, time) && put_counted(2, 10, 84, 3, time + 100)
+    put_counted(2, 10, 84, 2, at(DAY, ms)) && put_counted(2, 10, 84, 3, at(DAY, ms + 100))
 }
 
 fn put_all() -> bool {
-    put_scan()
-        && put_blocks_11(86400600)
-        && put_hits(86401000)
-        && put_late(86401500)
-        && put_clock_back(86412000)
-        && put_broken(86412500)
-        && put_second(86413000)
+    put_scan(DAY, 100, PIXELS)
+        && put_blocks_11(60600)
+        && put_hits(61000)
+        && put_late(61500)
+        && put_clock_back(72000)
+        && put_broken(72500)
+        && put_scan(LEAP_DAY, 200, FEW_PIXELS)
+        && put_second(73000)
 }
 
 // Any word, an option or a name, is answered with how it is called.

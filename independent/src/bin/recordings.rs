@@ -82,12 +82,17 @@ fn example() -> Vec<u8> {
     [field(1, &block(3, 2)), field(1, &[0; 89])].concat()
 }
 
-/// A block whose SPS time is so many milliseconds behind the midnight that begins 2008 day 61.
-fn made(number: u8, size: u8, c: u16, version: u8, ms: i64) -> Vec<u8> {
+/// So many milliseconds behind the midnight that begins 2008 day 61.
+fn on_day_61(ms: i64) -> Tag {
     let midnight = Tag { year: 2008, day: 61, ..Tag::default() }.time(&LeapDays::new());
+    tag_at(midnight + ms, false)
+}
+
+/// A block with a SPS time.
+fn made(number: u8, size: u8, c: u16, version: u8, time: Tag) -> Vec<u8> {
     let mut header = header(id_of_block(number), size, version, c);
     header[8] = 1;
-    header[16..24].copy_from_slice(&digits(&tag_at(midnight + ms, false)));
+    header[16..24].copy_from_slice(&digits(&time));
     let words: Vec<u16> = (0..c).map(|k| k % 61).collect();
     let mut dest = vec![0; 32_000];
     let (answer, length) = write(&header, &words, &mut dest);
@@ -96,21 +101,34 @@ fn made(number: u8, size: u8, c: u16, version: u8, ms: i64) -> Vec<u8> {
     dest
 }
 
+/// Eleven times, a fifth of a second apart: three in second 59 of the last minute of 2008, five in second 60, and three
+/// in the first second of 2009.
+fn over_the_leap_second() -> Vec<Tag> {
+    let second = |second: u8| Tag { year: 2008, day: 366, hour: 23, minute: 59, second, ..Tag::default() };
+    let next_year = Tag { year: 2009, day: 1, ..Tag::default() };
+    let within = |tag: Tag, first: u16, last: u16| {
+        (first..=last).step_by(200).map(move |millisecond| Tag { millisecond, ..tag })
+    };
+    within(second(59), 500, 900).chain(within(second(60), 100, 900)).chain(within(next_year, 100, 500)).collect()
+}
+
 /// What the program `sample` makes: a scan of a hundred pixels over midnight; blocks 11; block 3 hit in one copy, hit in
 /// its field, a byte short, under another tag, and short of a header; scans of one pixel that a watch with a limit of
-/// 5,000 ms closes as late, clock back and broken; and block 2 of 84 words in versions 2 and 3.
+/// 5,000 ms closes as late, clock back and broken; a scan of one pixel over the leap second at the end of 2008; and block
+/// 2 of 84 words in versions 2 and 3.
 fn sample() -> Vec<u8> {
-    let scanned = |number: u8, n: usize, ms: i64| match number {
-        0 => made(0, 8, 8_040, 2, ms),
-        _ => made(number, 10, c_of_n(number, 2, n) as u16, 2, ms),
+    let scanned_at = |number: u8, n: usize, time: Tag| match number {
+        0 => made(0, 8, 8_040, 2, time),
+        _ => made(number, 10, c_of_n(number, 2, n) as u16, 2, time),
     };
+    let scanned = |number: u8, n: usize, ms: i64| scanned_at(number, n, on_day_61(ms));
     let mut bytes = Vec::new();
     let mut add = |tag: u8, body: &[u8]| bytes.extend(field(tag, body));
     for number in 0..=10 {
         add(1, &scanned(number, 100, 100 * number as i64 - 500));
     }
     for (size, c, version) in [(8, 8_040, 0), (6, 10_720, 1), (10, 6_432, 2), (8, 8_040, 3)] {
-        add(1, &made(11, size, c, version, 600 + 100 * version as i64));
+        add(1, &made(11, size, c, version, on_day_61(600 + 100 * version as i64)));
     }
     let third = scanned(3, 100, 1_000);
     add(1, &with_bit(third.clone(), 5, 16));
@@ -125,8 +143,11 @@ fn sample() -> Vec<u8> {
     add(1, &scanned(1, 1, 12_600));
     add(1, &with_bit(scanned(2, 1, 12_700), 200, 1));
     add(1, &scanned(3, 1, 12_800));
-    add(1, &made(2, 10, 84, 2, 13_000));
-    add(1, &made(2, 10, 84, 3, 13_100));
+    for (number, time) in over_the_leap_second().into_iter().enumerate() {
+        add(1, &scanned_at(number as u8, 1, time));
+    }
+    add(1, &made(2, 10, 84, 2, on_day_61(13_000)));
+    add(1, &made(2, 10, 84, 3, on_day_61(13_100)));
     bytes
 }
 
@@ -219,8 +240,8 @@ mod tests {
         assert!(!listing.contains('-'), "{listing}");
     }
 
-    #[test]
-    fn a_watch_over_the_sample_meets_every_verdict() {
+    /// What a watch with a limit of 5,000 ms says to the accepted blocks of the sample, by the leap days that are lent.
+    fn watched(leap_days: &[u32]) -> Vec<Verdict> {
         let mut watch = begin(5_000).1;
         let mut verdicts = Vec::new();
         let bytes = super::sample();
@@ -231,12 +252,40 @@ mod tests {
             let answer = read(body, &mut [0; 22_000]);
             if *tag == 1 && answer.number == 0 {
                 let block = meaning(&answer.header).unwrap().block;
-                verdicts.push(offer(&mut watch, block, &answer.header[16..24], &[]));
+                verdicts.push(offer(&mut watch, block, &answer.header[16..24], leap_days));
             }
         }
+        verdicts
+    }
+
+    /// The verdicts over the sample, with those of its scan over the leap second.
+    fn with_leap_scan(scan: &[Verdict]) -> Vec<Verdict> {
         use Verdict::*;
         let whole = [&[Opened][..], &[Kept; 9], &[Complete], &[Stray; 5]].concat();
         let closed = [Opened, Kept, Late, Opened, Kept, ClockBack, Opened, Kept, Broken];
-        assert_eq!(verdicts, [&whole[..], &closed, &[Stray; 2]].concat());
+        [&whole[..], &closed, scan, &[Stray; 2]].concat()
+    }
+
+    #[test]
+    fn a_watch_over_the_sample_meets_every_verdict() {
+        use Verdict::*;
+        let complete = [&[Opened][..], &[Kept; 9], &[Complete]].concat();
+        assert_eq!(watched(&[2_008_366]), with_leap_scan(&complete));
+    }
+
+    /// Blocks 3 to 7 stand in second 60, and block 8 is not the one expected then.
+    #[test]
+    fn without_its_leap_day_five_blocks_of_the_sample_are_refused() {
+        use Verdict::*;
+        let broken = [&[Opened, Kept, Kept][..], &[Refused(12); 5], &[Broken], &[Stray; 2]].concat();
+        assert_eq!(watched(&[]), with_leap_scan(&broken));
+    }
+
+    #[test]
+    fn the_blocks_over_the_leap_second_are_a_fifth_of_a_second_apart() {
+        let leap_days = independent::tags::leap_days(&[2_008_366]).unwrap();
+        let times: Vec<i64> = super::over_the_leap_second().iter().map(|tag| tag.time(&leap_days)).collect();
+        assert_eq!(times.len(), 11);
+        assert!(times.windows(2).all(|pair| pair[1] - pair[0] == 200), "{times:?}");
     }
 }

@@ -1,15 +1,32 @@
--- `sample::put_scan` is safe and ends.
+-- `sample::put_scan` is safe and ends: ten times what lies between two blocks is no number too large.
 -- Assumes nothing.
-use Prim.Native.Nat.{_-_, _≤_}
+use Prim.Native.Nat.{ℕ, _-_, _*_, _≤_}
+use native.Mathlib.Nat.{mul-le-mul}
+use native.Mathlib.Omega.{arith}
 use borrow.Author.Needs.{needs}
 use Rattle.sample.proofs.put_scan.Statement.{statement}
 use Rattle.sample.proofs.put_scan.Tie as tie
 
 abbrev Inv-loop : tie.InvT-loop
-Inv-loop number₀ number = number ≤ 11
+Inv-loop day apart pixels number₀ number = number ≤ 11
 
 abbrev μ-loop : tie.MeasureT-loop
-μ-loop number₀ number = 11 - number
+μ-loop day apart pixels number₀ number = 11 - number
+
+abbrev apart-of : tie.In-loop Inv-loop μ-loop → ℕ
+apart-of c = c .before .before .before .before .before .args .apart
+
+abbrev number-of : tie.In-loop Inv-loop μ-loop → ℕ
+number-of c = c .before .loop .number
+
+-- 65,535 between two, ten times.
+behind-first : (c : tie.In-loop Inv-loop μ-loop) → apart-of c * number-of c ≤ 655350
+behind-first c =
+    let apart : apart-of c ≤ 65535 = omega (arith, c .before .before .before .before .before .fits .apart) in
+    mul-le-mul apart (c .loop-test .taken)
+
+at-requires : tie.Need-at-requires Inv-loop μ-loop
+at-requires c κs = search needs
 
 put-block-0-requires : tie.Need-put-block-0-requires Inv-loop μ-loop
 put-block-0-requires c κs = search needs
@@ -20,14 +37,17 @@ returns c = search needs
 loop-holds : tie.Need-loop-holds Inv-loop μ-loop
 loop-holds c = search needs
 
-cast-put-scanned : tie.Need-cast-put-scanned Inv-loop μ-loop
-cast-put-scanned c = search needs
+cast-at : tie.Need-cast-at Inv-loop μ-loop
+cast-at c = search needs
 
-mul-put-scanned : tie.Need-mul-put-scanned Inv-loop μ-loop
-mul-put-scanned c = search needs
+mul-at : tie.Need-mul-at Inv-loop μ-loop
+mul-at c = omega (arith, behind-first c)
 
-add-put-scanned : tie.Need-add-put-scanned Inv-loop μ-loop
-add-put-scanned c = search needs
+add-at : tie.Need-add-at Inv-loop μ-loop
+add-at c = omega (arith, behind-first c)
+
+at-requires-2 : tie.Need-at-requires-2 Inv-loop μ-loop
+at-requires-2 c κs = search needs
 
 put-scanned-requires : tie.Need-put-scanned-requires Inv-loop μ-loop
 put-scanned-requires c κs = search needs
@@ -53,12 +73,14 @@ put-scan-spec =
     (tie.spec
     Inv-loop
     μ-loop
+    at-requires
     put-block-0-requires
     returns
     loop-holds
-    cast-put-scanned
-    mul-put-scanned
-    add-put-scanned
+    cast-at
+    mul-at
+    add-at
+    at-requires-2
     put-scanned-requires
     returns-2
     add-number
