@@ -11,20 +11,14 @@ use lib.ListN.{length, getD}
 use borrow.Author.Tests.{eqb-true, eq-eqb, le-leb, leb-true, lt-ltb, le-ltb, ltb-true, ltb-false}
 use Rattle.ground.specs.Choice.{pick}
 use Rattle.ground.proofs.LawsTests.{never, both, first, second}
-use Rattle.calendar.specs.Years.{leap, daysIn}
+use Rattle.calendar.specs.Years.{daysIn}
 use Rattle.calendar.specs.Leaps.{mostLeaps, possible, follows, risesFrom, goodList, listed, listedBefore}
 use Rattle.calendar.specs.Promises.{IsDay, IsList, InList, Passed, Lists}
 use Rattle.calendar.proofs.LawsLists.{short}
+use Rattle.calendar.proofs.LawsYears.{at-most-366}
 use Rattle.calendar.proofs.LawsLeaps.{at-most-1}
 
 -- ---- a possible day
-
-pub at-most-366 : (y : ℕ) → daysIn y ≤ 366
-at-most-366 y = by (leap y)
-  where
-    by : (b : Bool) → pick b 366 365 ≤ 366
-    by true = omega arith
-    by false = omega arith
 
 is-day : (n : ℕ) → possible n ≡ true → IsDay n
 unfolding possible

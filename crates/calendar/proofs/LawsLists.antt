@@ -18,10 +18,6 @@ pub none-good : goodList [] ≡ true
 unfolding goodList risesFrom
 none-good = refl
 
-pub none-listed : (n : ℕ) → listed [] n ≡ false
-unfolding listed
-none-listed n = refl
-
 pub none-before : (n : ℕ) → listedBefore [] n ≡ 0
 unfolding listedBefore
 none-before n = refl

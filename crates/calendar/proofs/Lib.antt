@@ -1,3 +1,4 @@
+pub mod LawsYears
 pub mod LawsLeaps
 pub mod LawsLists
 pub mod KeepsLists

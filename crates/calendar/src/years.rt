@@ -8,7 +8,7 @@ pub const LAST_YEAR: u16 = 9999;
 // Days of a year, and of a leap year.
 pub const DAYS: u16 = 365;
 
-const DAYS_OF_LEAP_YEAR: u16 = 366;
+const LEAP_YEAR_DAYS: u16 = 366;
 
 fn is_leap(year: u16) -> bool
     ensures { λ r. ⌜ r ≡ leap year ⌝ }
@@ -19,9 +19,5 @@ fn is_leap(year: u16) -> bool
 pub fn days_in(year: u16) -> u16
     ensures { λ r. ⌜ r ≡ daysIn year ⌝ }
 {
-    if is_leap(year) {
-        DAYS_OF_LEAP_YEAR
-    } else {
-        DAYS
-    }
+    if is_leap(year) { LEAP_YEAR_DAYS } else { DAYS }
 }

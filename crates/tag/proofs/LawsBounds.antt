@@ -10,7 +10,8 @@ use lib.Dec.{eqb, leb}
 use borrow.Author.Tests.{le-leb, leb-true, eq-eqb, eqb-true}
 use Rattle.calendar.specs.Years.{daysIn}
 use Rattle.calendar.specs.Leaps.{dayOf, listed}
-use Rattle.calendar.proofs.KeepsLists.{in-list, list-has, at-most-366}
+use Rattle.calendar.proofs.KeepsLists.{in-list, list-has}
+use Rattle.calendar.proofs.LawsYears.{at-most-366}
 use Rattle.tag.specs.Tags.{endsDay, goodSecond, inBounds}
 use Rattle.tag.specs.Promises.{LeapSecond, Bounded}
 use Rattle.tag.specs.declared.Tag.{Tag}

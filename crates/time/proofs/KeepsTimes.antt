@@ -17,7 +17,8 @@ use Rattle.ground.specs.Choice.{pick}
 use Rattle.calendar.specs.Years.{daysIn}
 use Rattle.calendar.specs.Leaps.{dayOf, goodList, listedBefore}
 use Rattle.calendar.proofs.LawsLists.{counts-up, counts-one}
-use Rattle.calendar.proofs.KeepsLists.{list-is, list-has, at-most-366}
+use Rattle.calendar.proofs.KeepsLists.{list-is, list-has}
+use Rattle.calendar.proofs.LawsYears.{at-most-366}
 use Rattle.time.specs.Years.{daysBefore}
 use Rattle.tag.specs.Digits.{digitsOf, decimal}
 use Rattle.tag.specs.Tags.{unmarked, tagDigits, part, tagOf, goodSecond, inBounds, goodTag}
