@@ -1,5 +1,6 @@
 //! compare SEED COUNT [FAULT]: the model against the library, or, with a fault (a number from 1), against one that is wrong on purpose.
-//! One salvage is compared for every twenty cases, and one case with leap days for every five. Exit status 1 on a difference, 2 on bad arguments.
+//! One salvage is compared for every twenty cases, and one case with leap days for every five.
+//! Exit status 1 on a difference, 2 on bad arguments.
 
 use std::process::ExitCode;
 

@@ -832,19 +832,14 @@ static void elapsed_by_a_bad_list(void)
     }
 }
 
-static void elapsed(void)
-{
-    static const uint8_t first[8] = {0x00, 0x00, 0x00, 0x10, 0x00, 0x00, 0x00, 0x00};
-    static const uint8_t last[8] = {0x99, 0x99, 0x36, 0x52, 0x35, 0x95, 0x99, 0x99};
-    lend_none();
-    apart(day_60, day_61, 1);
-    apart(day_60, day_60, 0);
-    apart(first, last, INT64_C(3652425) * 86400000 - 1);
-    told("elapsed: forward, backward, none, and over ten thousand years");
+static const uint8_t ends[8] = {0x20, 0x16, 0x36, 0x62, 0x35, 0x95, 0x90, 0x00}; /* 23:59:59.000 of 2016 day 366 */
+static const uint8_t leap[8] = {0x20, 0x16, 0x36, 0x62, 0x35, 0x96, 0x00, 0x00}; /* a second later */
+static const uint8_t year_0[8] = {0x00, 0x00, 0x00, 0x10, 0x00, 0x00, 0x00, 0x00};
+static const uint8_t year_9999[8] = {0x99, 0x99, 0x36, 0x52, 0x35, 0x95, 0x99, 0x99};
 
+static void elapsed_over_leap_seconds(void)
+{
     static const uint32_t bare[] = {2015181, 2016366};
-    static const uint8_t ends[8] = {0x20, 0x16, 0x36, 0x62, 0x35, 0x95, 0x90, 0x00}; /* 23:59:59.000 of 2016 day 366 */
-    static const uint8_t leap[8] = {0x20, 0x16, 0x36, 0x62, 0x35, 0x96, 0x00, 0x00}; /* a second later */
     static const uint8_t over[8] = {0x20, 0x16, 0x36, 0x62, 0x35, 0x96, 0x09, 0x99};
     static const uint8_t next[8] = {0x20, 0x17, 0x00, 0x10, 0x00, 0x00, 0x00, 0x00};
     static const uint8_t morning[8] = {0x20, 0x16, 0x36, 0x60, 0x00, 0x00, 0x00, 0x00};
@@ -861,7 +856,7 @@ static void elapsed(void)
     apart(day_60, next, INT64_C(3228) * 86400000 + 2001);
     told("elapsed: a listed day has a second more, which no time on the day itself counts, and a day that is not listed has none");
     lend_many(MOST_DAYS);
-    apart(first, last, INT64_C(3652425) * 86400000 - 1 + 64 * 1000);
+    apart(year_0, year_9999, INT64_C(3652425) * 86400000 - 1 + 64 * 1000);
     apart(day_60, day_61, 1);
     at_time(1980, 181, 23, 59, 60, 0);
     uint8_t thirtieth[8];
@@ -869,6 +864,16 @@ static void elapsed(void)
     at_time(1990, 181, 23, 59, 60, 0);
     apart(thirtieth, tag_here, INT64_C(3653) * 86400000 + 10 * 1000);
     told("elapsed: the longest list counts, each day of it once");
+}
+
+static void elapsed(void)
+{
+    lend_none();
+    apart(day_60, day_61, 1);
+    apart(day_60, day_60, 0);
+    apart(year_0, year_9999, INT64_C(3652425) * 86400000 - 1);
+    told("elapsed: forward, backward, none, and over ten thousand years");
+    elapsed_over_leap_seconds();
 
     static const size_t lengths[][2] = {{7, 8}, {8, 7}, {9, 8}, {0, 8}, {8, 0}, {0, 0}};
     for (int i = 0; i < 6; i++) {

@@ -10,9 +10,9 @@ use lib.Dec.{eqb, leb, ltb}
 use lib.ListN.{length, getD}
 use borrow.Author.Tests.{eqb-true, eq-eqb, le-leb, leb-true, lt-ltb, le-ltb, ltb-true, ltb-false}
 use Rattle.ground.specs.Choice.{pick}
-use Rattle.ground.proofs.LawsTests.{never, both, first, second}
+use Rattle.ground.proofs.LawsTests.{never, both, first, second, or-second}
 use Rattle.calendar.specs.Years.{daysIn}
-use Rattle.calendar.specs.Leaps.{mostLeaps, possible, follows, risesFrom, goodList, listed, listedBefore}
+use Rattle.calendar.specs.Leaps.{mostLeaps, possible, follows, risesFrom, goodList, listed, countsFor, listedBefore}
 use Rattle.calendar.specs.Promises.{IsDay, IsList, InList, Passed, Lists}
 use Rattle.calendar.proofs.LawsLists.{short}
 use Rattle.calendar.proofs.LawsYears.{at-most-366}
@@ -98,10 +98,6 @@ in-list (d ∷ ds) n h = by (eqb d n) refl h (in-list ds n)
     by true e k f = record { place = 0; within = omega arith; is = eqb-true d n e }
     by false e k f = let r = f k in record { place = suc (r .place); within = omega (arith, r .within); is = r .is }
 
-or-second : (a : Bool) {b : Bool} → b ≡ true → a || b ≡ true
-or-second true h = refl
-or-second false h = h
-
 pub list-has : (leaps : List ℕ) (n : ℕ) → InList leaps n → listed leaps n ≡ true
 unfolding listed
 list-has [] n h = absurd (omega (arith, h .within))
@@ -123,7 +119,7 @@ none-from (e ∷ es) d n h l =
 at-most : (leaps : List ℕ) (n : ℕ) → listedBefore leaps n ≤ length leaps
 unfolding listedBefore
 at-most [] n = omega arith
-at-most (d ∷ ds) n = omega (arith, at-most-1 (ltb d n), at-most ds n)
+at-most (d ∷ ds) n = omega (arith, at-most-1 (countsFor d n), at-most ds n)
 
 before : (leaps : List ℕ) (low n : ℕ) → risesFrom low leaps ≡ true → (i : ℕ) → i < length leaps → (getD leaps i 0 < n) ↔ (i < listedBefore leaps n)
 unfolding risesFrom listedBefore

@@ -5,21 +5,14 @@ use Prim.Native.Nat.{ℕ, suc, _+_, _≤_, _<_}
 use native.Mathlib.Omega.{arith}
 use mathlib.Core.Bool.{Bool, true, false, _&&_, _||_}
 use mathlib.Core.List.{List}
-use lib.Dec.{eqb, ltb}
+use lib.Dec.{eqb}
 use lib.ListN.{length, getD, take, drop}
 use lib.Seq.{length-take-le, take-all}
 use Rattle.ground.specs.Choice.{pick}
+use Rattle.ground.proofs.LawsTests.{or-assoc, or-false}
 use Rattle.ground.proofs.LawsWalk as Walk
 use Rattle.ground.proofs.LawsWalk.{Walking, step, here, finish}
-use Rattle.calendar.specs.Leaps.{mostLeaps, follows, risesFrom, listed, listedBefore}
-
-or-assoc : (a b c : Bool) → (a || b) || c ≡ a || (b || c)
-or-assoc true b c = refl
-or-assoc false b c = refl
-
-or-false : (a : Bool) → a ≡ a || false
-or-false true = refl
-or-false false = refl
+use Rattle.calendar.specs.Leaps.{mostLeaps, follows, risesFrom, listed, countsFor, listedBefore}
 
 pub at-most-1 : (t : Bool) → pick t 1 0 ≤ 1
 at-most-1 true = omega arith
@@ -54,12 +47,12 @@ module _ (leaps : List ℕ) (n : ℕ) where
   pub count-start : Counting 0 0
   count-start = record { walk = Walk.start more 0 leaps; most = omega arith }
 
-  pub count-next : {count i one : ℕ} → Counting count i → i < length leaps → one ≡ pick (ltb (getD leaps i 0) n) 1 0 → Counting (count + one) (i + 1)
+  pub count-next : {count i one : ℕ} → Counting count i → i < length leaps → one ≡ pick (countsFor (getD leaps i 0) n) 1 0 → Counting (count + one) (i + 1)
   unfolding listedBefore
   count-next {count} {i} s h e =
       record {
         walk = step more 0 leaps (s .walk) h (omega (arith, e));
-        most = omega (arith, e, s .most, at-most-1 (ltb (getD leaps i 0) n));
+        most = omega (arith, e, s .most, at-most-1 (countsFor (getD leaps i 0) n));
       }
 
   pub counted : {count i : ℕ} → Counting count i → length leaps ≤ i → count ≡ listedBefore leaps n

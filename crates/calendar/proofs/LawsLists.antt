@@ -11,7 +11,7 @@ use lib.ListN.{length, take}
 use borrow.Author.Tests.{eqb-true, leb-true, lt-ltb, le-ltb, ltb-true, ltb-false}
 use Rattle.ground.specs.Choice.{pick}
 use Rattle.ground.proofs.LawsTests.{never, first}
-use Rattle.calendar.specs.Leaps.{mostLeaps, risesFrom, goodList, listed, listedBefore}
+use Rattle.calendar.specs.Leaps.{mostLeaps, risesFrom, goodList, listed, countsFor, listedBefore}
 use Rattle.calendar.proofs.LawsLeaps.{firsts}
 
 pub none-good : goodList [] ≡ true
@@ -30,7 +30,7 @@ pub all-first : (leaps : List ℕ) → goodList leaps ≡ true → take mostLeap
 all-first leaps h = firsts leaps (short leaps h)
 
 -- one day's part in the counts of two days, the first no later
-one-up : {m n : ℕ} (d : ℕ) → m ≤ n → pick (ltb d m) 1 0 ≤ pick (ltb d n) 1 0
+one-up : {m n : ℕ} (d : ℕ) → m ≤ n → pick (countsFor d m) 1 0 ≤ pick (countsFor d n) 1 0
 one-up {m} {n} d h = by (ltb d m) (ltb d n) refl refl
   where
     by : (s t : Bool) → ltb d m ≡ s → ltb d n ≡ t → pick s 1 0 ≤ pick t 1 0
@@ -50,11 +50,11 @@ counts-one [] l h = never l
 counts-one (d ∷ ds) {m} {n} l h = by (eqb d m) refl l (λ k. counts-one ds k h)
   where
     by : (t : Bool) → eqb d m ≡ t → t || listed ds m ≡ true → (listed ds m ≡ true → listedBefore ds m + 1 ≤ listedBefore ds n)
-        → pick (ltb d m) 1 0 + listedBefore ds m + 1 ≤ pick (ltb d n) 1 0 + listedBefore ds n
+        → pick (countsFor d m) 1 0 + listedBefore ds m + 1 ≤ pick (countsFor d n) 1 0 + listedBefore ds n
     by true e k f =
         let is : d ≡ m = eqb-true d m e in
         let up : listedBefore ds m ≤ listedBefore ds n = counts-up ds (omega arith) in
         rw (le-ltb d m (omega arith), lt-ltb d n (omega arith)) (omega arith)
     by false e k f =
-        let one : pick (ltb d m) 1 0 ≤ pick (ltb d n) 1 0 = one-up d (omega arith) in
+        let one : pick (countsFor d m) 1 0 ≤ pick (countsFor d n) 1 0 = one-up d (omega arith) in
         omega (arith, f k)

@@ -39,7 +39,11 @@ unfoldable pub listed : List ℕ → ℕ → Bool
 listed [] n = false
 listed (d ∷ ds) n = eqb d n || listed ds n
 
--- The listed days before a day, counted; the day itself is none of them.
+-- A listed day counts for the days behind it, not for itself.
+abbrev pub countsFor : ℕ → ℕ → Bool
+countsFor d n = ltb d n
+
+-- The listed days before a day, counted.
 unfoldable pub listedBefore : List ℕ → ℕ → ℕ
 listedBefore [] n = 0
-listedBefore (d ∷ ds) n = pick (ltb d n) 1 0 + listedBefore ds n
+listedBefore (d ∷ ds) n = pick (countsFor d n) 1 0 + listedBefore ds n

@@ -1,10 +1,9 @@
 // Lists of leap days. Each walk is over at most the days that are lent.
 ghost use mathlib.Core.Path.{_≡_};
 ghost use Prim.Native.Nat.{_+_, _*_, _≤_};
-ghost use lib.Dec.{ltb};
 ghost use lib.ListN.{length, take};
 ghost use Rattle.ground.specs.Choice.{pick};
-ghost use Rattle.calendar.specs.Leaps.{possible, follows, risesFrom, goodList, listed, listedBefore, dayOf};
+ghost use Rattle.calendar.specs.Leaps.{mostLeaps, dayOf, possible, follows, risesFrom, goodList, listed, countsFor, listedBefore};
 use crate::years;
 
 pub const MOST_LEAP_DAYS: usize = 64;
@@ -67,7 +66,7 @@ pub fn is_good_list(leaps: &[u32]) -> bool
     rises(leaps)
 }
 
-// No way out before the end: so the loop runs on many days at a time. The next one too.
+// No way out before the end: so the loop runs on many days at a time, and so does that of `count_before`.
 fn holds(leaps: &[u32], number: u32) -> bool
     ensures { λ r. ⌜ r ≡ listed (now (leaps .entry)) number ⌝ }
 {
@@ -80,10 +79,17 @@ fn holds(leaps: &[u32], number: u32) -> bool
     found
 }
 
-fn one_before(day: u32, number: u32) -> u64
-    ensures { λ r. ⌜ r ≡ pick (ltb day number) 1 0 ⌝ }
+// A listed day counts for the days behind it, not for itself.
+fn counts_for(day: u32, number: u32) -> bool
+    ensures { λ r. ⌜ r ≡ countsFor day number ⌝ }
 {
-    if day < number { 1 } else { 0 }
+    day < number
+}
+
+fn one_before(day: u32, number: u32) -> u64
+    ensures { λ r. ⌜ r ≡ pick (countsFor day number) 1 0 ⌝ }
+{
+    if counts_for(day, number) { 1 } else { 0 }
 }
 
 fn count_before(leaps: &[u32], number: u32) -> u64
@@ -107,7 +113,7 @@ pub fn is_listed(leaps: &[u32], year: u16, day: u16) -> bool
 
 // How many of the first 64 days of a list, of any, are before a day of a year.
 pub fn listed_before(leaps: &[u32], year: u16, day: u16) -> u64
-    ensures { λ r. ⌜ (r ≡ listedBefore (take 64 (now (leaps .entry))) (dayOf year day)) × (r ≤ 64) ⌝ }
+    ensures { λ r. ⌜ (r ≡ listedBefore (take mostLeaps (now (leaps .entry))) (dayOf year day)) × (r ≤ mostLeaps) ⌝ }
 {
     let number = number_of(year, day);
     if MOST_LEAP_DAYS < leaps.len() {

@@ -144,20 +144,20 @@ pub record FromC : Type 0 where
       let j = sectionsOf SounderSpacelook (now words) in
       (answer ≡ j .number) × (holds ≡ mark (getD (j .holds) 0 false) ∷ mark (getD (j .holds) 1 false) ∷ []))
   -- time tags, with the leap days; elapsed from the first to the second
-  pub read-tag : Every rahmisve_read_tag.ended rahmisve_read_tag.Reads.Learnt (λ _ (tag, (days, _)) answer (_, (_, (numbers, _))).
-      (answer ≡ readTag (now days) (now tag) .number) × (numbers ≡ time (readTag (now days) (now tag) .tag)))
-  pub write-tag : Every rahmisve_write_tag.ended rahmisve_write_tag.Reads.Learnt (λ _ (numbers, (days, _)) answer (_, (_, (tag, _))).
-      let w = writeTag (now days) (timeAt 0 (now numbers)) in
+  pub read-tag : Every rahmisve_read_tag.ended rahmisve_read_tag.Reads.Learnt (λ _ (tag, (leaps, _)) answer (_, (_, (numbers, _))).
+      (answer ≡ readTag (now leaps) (now tag) .number) × (numbers ≡ time (readTag (now leaps) (now tag) .tag)))
+  pub write-tag : Every rahmisve_write_tag.ended rahmisve_write_tag.Reads.Learnt (λ _ (numbers, (leaps, _)) answer (_, (_, (tag, _))).
+      let w = writeTag (now leaps) (timeAt 0 (now numbers)) in
       (answer ≡ w .number) × (tag ≡ w .bytes))
-  pub elapsed : Every rahmisve_elapsed.ended rahmisve_elapsed.Reads.Learnt (λ _ (from, (to, (days, _))) answer (_, (_, (_, (ms, _)))).
-      (answer ≡ elapsedOf (now days) (now from) (now to) .number) × (ms ≡ elapsedOf (now days) (now from) (now to) .ms))
+  pub elapsed : Every rahmisve_elapsed.ended rahmisve_elapsed.Reads.Learnt (λ _ (from, (to, (leaps, _))) answer (_, (_, (_, (ms, _)))).
+      (answer ≡ elapsedOf (now leaps) (now from) (now to) .number) × (ms ≡ elapsedOf (now leaps) (now from) (now to) .ms))
   -- the scan watch: a limit above 3,600,000 ms is 16, and the watch is as it was
   pub begin : Every rahmisve_watch_begin.ended rahmisve_watch_begin.Reads.Learnt (λ _ (limit, (row, _)) answer (_, (begun, _)).
       (limit ≤ 3600000 → (answer ≡ 0) × (begun ≡ 0 ∷ 0 ∷ 0 ∷ 0 ∷ 0 ∷ 0 ∷ 0 ∷ 0 ∷ 0 ∷ limit ∷ []))
       × (3600000 < limit → (answer ≡ 16) × (begun ≡ now row)))
   -- refused (0), and as a stray (1), it is as it was
-  pub offer : Every rahmisve_watch_offer.ended rahmisve_watch_offer.Reads.Learnt (λ _ (row, (block, (tag, (days, _)))) answer (after, (_, (_, (_, (verdict, _))))).
-      let s = stepOf (now days) (watchAt (now row)) block (now tag) in
+  pub offer : Every rahmisve_watch_offer.ended rahmisve_watch_offer.Reads.Learnt (λ _ (row, (block, (tag, (leaps, _)))) answer (after, (_, (_, (_, (verdict, _))))).
+      let s = stepOf (now leaps) (watchAt (now row)) block (now tag) in
       (answer ≡ numberOf (s .verdict)) × (verdict ≡ code (s .verdict)) × (verdict ≤ 1 → after ≡ now row) × (2 ≤ verdict → after ≡ watch (s .next)))
   -- recordings: what stands from a byte on
   pub next : Every rahmisve_next_field.ended rahmisve_next_field.Reads.Learnt (λ _ (recording, (at, _)) answer (_, (_, (tag, (start, (long, _))))).
@@ -213,20 +213,20 @@ pub record RowsFromC : Type 0 where
   -- there is no block 256
   pub no-place : Every rahmisve_place.ended rahmisve_place.Reads.Learnt (λ _ (block, _) answer left. block ≡ 256 → (answer ≡ 4) × (left ≡ (tt, (tt, (tt, (0, (0, tt)))))))
   -- tag 19 87 A3 42 14 35 67 89 is 1987 day 234, 21:43:56.789, flywheel on
-  pub read-tag : Every rahmisve_read_tag.ended rahmisve_read_tag.Reads.Learnt (λ _ (tag, (days, _)) answer left.
-      now tag ≡ 0x19 ∷ 0x87 ∷ 0xA3 ∷ 0x42 ∷ 0x14 ∷ 0x35 ∷ 0x67 ∷ 0x89 ∷ [] → now days ≡ []
+  pub read-tag : Every rahmisve_read_tag.ended rahmisve_read_tag.Reads.Learnt (λ _ (tag, (leaps, _)) answer left.
+      now tag ≡ 0x19 ∷ 0x87 ∷ 0xA3 ∷ 0x42 ∷ 0x14 ∷ 0x35 ∷ 0x67 ∷ 0x89 ∷ [] → now leaps ≡ []
       → (answer ≡ 0) × (left ≡ (tt, (tt, (1987 ∷ 234 ∷ 21 ∷ 43 ∷ 56 ∷ 789 ∷ 1 ∷ [], tt)))))
   -- row 9: 1 ms later
-  pub row9 : Every rahmisve_elapsed.ended rahmisve_elapsed.Reads.Learnt (λ _ (from, (to, (days, _))) answer left.
-      now from ≡ 0x20 ∷ 0x08 ∷ 0x06 ∷ 0x02 ∷ 0x35 ∷ 0x95 ∷ 0x99 ∷ 0x99 ∷ [] → now to ≡ 0x20 ∷ 0x08 ∷ 0x06 ∷ 0x10 ∷ 0x00 ∷ 0x00 ∷ 0x00 ∷ 0x00 ∷ [] → now days ≡ []
+  pub row9 : Every rahmisve_elapsed.ended rahmisve_elapsed.Reads.Learnt (λ _ (from, (to, (leaps, _))) answer left.
+      now from ≡ 0x20 ∷ 0x08 ∷ 0x06 ∷ 0x02 ∷ 0x35 ∷ 0x95 ∷ 0x99 ∷ 0x99 ∷ [] → now to ≡ 0x20 ∷ 0x08 ∷ 0x06 ∷ 0x10 ∷ 0x00 ∷ 0x00 ∷ 0x00 ∷ 0x00 ∷ [] → now leaps ≡ []
       → (answer ≡ 0) × (left ≡ (tt, (tt, (tt, (pos 1, tt))))))
   -- 2016 day 366 listed: from 23:59:59.000 to midnight it is 2,000 ms
-  pub leap : Every rahmisve_elapsed.ended rahmisve_elapsed.Reads.Learnt (λ _ (from, (to, (days, _))) answer left.
-      now from ≡ 0x20 ∷ 0x16 ∷ 0x36 ∷ 0x62 ∷ 0x35 ∷ 0x95 ∷ 0x90 ∷ 0x00 ∷ [] → now to ≡ 0x20 ∷ 0x17 ∷ 0x00 ∷ 0x10 ∷ 0x00 ∷ 0x00 ∷ 0x00 ∷ 0x00 ∷ [] → now days ≡ 2016366 ∷ []
+  pub leap : Every rahmisve_elapsed.ended rahmisve_elapsed.Reads.Learnt (λ _ (from, (to, (leaps, _))) answer left.
+      now from ≡ 0x20 ∷ 0x16 ∷ 0x36 ∷ 0x62 ∷ 0x35 ∷ 0x95 ∷ 0x90 ∷ 0x00 ∷ [] → now to ≡ 0x20 ∷ 0x17 ∷ 0x00 ∷ 0x10 ∷ 0x00 ∷ 0x00 ∷ 0x00 ∷ 0x00 ∷ [] → now leaps ≡ 2016366 ∷ []
       → (answer ≡ 0) × (left ≡ (tt, (tt, (tt, (pos 2000, tt))))))
   -- block 3 comes to an open watch that expects it, 2,123 ms after the last tag, with the mark off
-  pub kept : Every rahmisve_watch_offer.ended rahmisve_watch_offer.Reads.Learnt (λ _ (row, (block, (tag, (days, _)))) answer left.
-      now row ≡ 1 ∷ 3 ∷ 1987 ∷ 234 ∷ 21 ∷ 43 ∷ 56 ∷ 789 ∷ 1 ∷ 5000 ∷ [] → block ≡ 3 → now tag ≡ 0x19 ∷ 0x87 ∷ 0x23 ∷ 0x42 ∷ 0x14 ∷ 0x35 ∷ 0x89 ∷ 0x12 ∷ [] → now days ≡ []
+  pub kept : Every rahmisve_watch_offer.ended rahmisve_watch_offer.Reads.Learnt (λ _ (row, (block, (tag, (leaps, _)))) answer left.
+      now row ≡ 1 ∷ 3 ∷ 1987 ∷ 234 ∷ 21 ∷ 43 ∷ 56 ∷ 789 ∷ 1 ∷ 5000 ∷ [] → block ≡ 3 → now tag ≡ 0x19 ∷ 0x87 ∷ 0x23 ∷ 0x42 ∷ 0x14 ∷ 0x35 ∷ 0x89 ∷ 0x12 ∷ [] → now leaps ≡ []
       → (answer ≡ 0) × (left ≡ (1 ∷ 4 ∷ 1987 ∷ 234 ∷ 21 ∷ 43 ∷ 58 ∷ 912 ∷ 0 ∷ 5000 ∷ [], (tt, (tt, (tt, (3, tt)))))))
   -- row 7, in a room of five
   pub row7 : Every rahmisve_take_words.ended rahmisve_take_words.Reads.Learnt (λ _ (field, (size, (count, (room, _)))) answer left.

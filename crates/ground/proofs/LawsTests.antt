@@ -45,6 +45,18 @@ pub and-assoc : (a b c : Bool) → (a && b) && c ≡ a && (b && c)
 and-assoc true b c = refl
 and-assoc false b c = refl
 
+pub or-false : (a : Bool) → a ≡ a || false
+or-false true = refl
+or-false false = refl
+
+pub or-assoc : (a b c : Bool) → (a || b) || c ≡ a || (b || c)
+or-assoc true b c = refl
+or-assoc false b c = refl
+
+pub or-second : (a : Bool) {b : Bool} → b ≡ true → a || b ≡ true
+or-second true h = refl
+or-second false h = h
+
 pub neither : (a b : Bool) → (a || b) ≡ false → (a ≡ false) × (b ≡ false)
 neither true b h = let e : true ≡ false = h in (cc, cc)
 neither false b h = (refl, h)

@@ -1,7 +1,8 @@
--- The statements on leap seconds are kept: of eight bytes, one by one, what the digits say is what the crate reads; the days of a list, the
--- bounds and the leap years are told by the crate's tests; and the watch's grounds and rules by its own promises.
+-- The statements on leap seconds are kept, of tags and of elapsed time: of eight bytes, one by one, what the digits say is what the crate
+-- reads; the days of a list, the bounds and the leap years are told by the crate's tests; and a count is the plain one and so many seconds
+-- more.
 -- Assumes nothing.
-use Prim.Native.Nat.{ℕ, zero, suc, _+_, _*_, _-_, _/_, _%_, _≤_, _<_}
+use Prim.Native.Nat.{ℕ, zero, suc, _+_, _*_, _/_, _%_, _≤_, _<_}
 use mathlib.Core.Path.{_≡_, refl, sym, ap, _∙_, subst}
 use mathlib.Core.Logic.{_⊎_, inl, inr, ⊎-elim, _↔_}
 use mathlib.Core.Bool.{Bool, true, false, not, _&&_, _||_}

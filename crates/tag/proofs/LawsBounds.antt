@@ -15,7 +15,7 @@ use Rattle.calendar.proofs.LawsYears.{at-most-366}
 use Rattle.tag.specs.Tags.{endsDay, goodSecond, inBounds}
 use Rattle.tag.specs.Promises.{LeapSecond, Bounded}
 use Rattle.tag.specs.declared.Tag.{Tag}
-use Rattle.ground.proofs.LawsTests.{both, first, second}
+use Rattle.ground.proofs.LawsTests.{both, first, second, or-second}
 
 -- What the first of a row of tests says.
 head : (m n : ℕ) (b : Bool) → leb m n && b ≡ true → m ≤ n
@@ -47,10 +47,6 @@ module _ (leaps : List ℕ) (t : Tag) where
       by : (b : Bool) → leb (t .second) 59 ≡ b → b || (endsDay t && listed leaps (dayOf (t .year) (t .day))) ≡ true → (t .second ≤ 59) ⊎ LeapSecond leaps t
       by true e k = inl (leb-true (t .second) 59 e)
       by false e k = inr (is-leap-second k)
-
-  or-second : (a : Bool) {b : Bool} → b ≡ true → a || b ≡ true
-  or-second true h = refl
-  or-second false h = h
 
   second-tests : (t .second ≤ 59) ⊎ LeapSecond leaps t → goodSecond leaps t ≡ true
   unfolding goodSecond

@@ -1,4 +1,4 @@
--- What eight bytes say, byte by byte as the code takes them; and what a reading answers, by whether the tag is good.
+-- What eight bytes say, byte by byte as the code takes them; and what a reading answers, by whether list and tag are good.
 -- Assumes nothing.
 use mathlib.Core.Path.{_≡_, refl, sym, ap, _∙_}
 use Prim.Native.Nat.{ℕ, zero, suc, _+_, _*_, _/_, _%_}

@@ -4,6 +4,7 @@ ghost use mathlib.Core.Bool.{_&&_};
 ghost use Prim.Native.Nat.{_<_, _^_};
 ghost use lib.Dec.{eqb};
 ghost use lib.ListN.{take};
+ghost use Rattle.calendar.specs.Leaps.{mostLeaps};
 ghost use Rattle.time.specs.Years.{daysBefore};
 ghost use Rattle.time.specs.Times.{countOf, timeOf};
 use tag::Tag;
@@ -43,7 +44,7 @@ fn counted(tag: Tag) -> u64
 
 // The same with a second for each listed day before; the difference of two fits an i64.
 pub(crate) fn milliseconds(tag: Tag, leaps: &[u32]) -> u64
-    ensures { λ r. ⌜ (r ≡ timeOf (take 64 (now (leaps .entry))) tag) × (r < 2 ^ 62) ⌝ }
+    ensures { λ r. ⌜ (r ≡ timeOf (take mostLeaps (now (leaps .entry))) tag) × (r < 2 ^ 62) ⌝ }
 {
     let count = counted(tag);
     let leap_seconds = calendar::listed_before(leaps, tag.year, tag.day);

@@ -2,6 +2,7 @@
 ghost use mathlib.Core.Path.{_≡_};
 ghost use lib.IntN.{pos};
 ghost use lib.ListN.{take};
+ghost use Rattle.calendar.specs.Leaps.{mostLeaps};
 ghost use Rattle.time.specs.Times.{between, elapsedOf};
 use tag::Tag;
 
@@ -12,7 +13,7 @@ pub use count::Elapsed;
 // The time from a first tag to a second, of any numbers: below zero where the second tag is the earlier one. Of a list, of any days, the first
 // 64 are counted: a longer one is none.
 pub fn between(from: Tag, to: Tag, leaps: &[u32]) -> i64
-    ensures { λ r. ⌜ r ≡ between (take 64 (now (leaps .entry))) from to ⌝ }
+    ensures { λ r. ⌜ r ≡ between (take mostLeaps (now (leaps .entry))) from to ⌝ }
 {
     let start = count::milliseconds(from, leaps);
     let end = count::milliseconds(to, leaps);

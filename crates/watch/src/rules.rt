@@ -5,6 +5,7 @@ ghost use Prim.Native.Nat.{_≤_};
 ghost use lib.IntN.{pos};
 ghost use lib.ListN.{length};
 ghost use lib.Signed.{ltZ};
+ghost use Rattle.calendar.specs.Leaps.{mostLeaps};
 ghost use Rattle.watch.specs.Rules.{idle, expecting, closing, onIdle, inTime, onOpen, onGood};
 use crate::Closing;
 use crate::Stepped;
@@ -117,7 +118,7 @@ fn on_open(w: Watch, block: u8, t: Tag, d: i64) -> Stepped
 
 // An offer of a known block with a good tag, by a list of at most 64 leap days.
 pub(crate) fn on_good(w: Watch, block: u8, t: Tag, leaps: &[u32]) -> Stepped
-    requires { ⌜ (w .opened ≡ true → w .expected ≤ 10) × (length (now leaps) ≤ 64) ⌝ }
+    requires { ⌜ (w .opened ≡ true → w .expected ≤ 10) × (length (now leaps) ≤ mostLeaps) ⌝ }
     ensures { λ r. ⌜ r ≡ onGood (now (leaps .entry)) w block t ⌝ }
 {
     if w.opened {
