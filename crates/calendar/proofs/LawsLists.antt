@@ -31,9 +31,9 @@ all-first leaps h = firsts leaps (short leaps h)
 
 -- one day's part in the counts of two days, the first no later
 one-up : {m n : ℕ} (d : ℕ) → m ≤ n → pick (countsFor d m) 1 0 ≤ pick (countsFor d n) 1 0
-one-up {m} {n} d h = by (ltb d m) (ltb d n) refl refl
+one-up {m} {n} d h = by (countsFor d m) (countsFor d n) refl refl
   where
-    by : (s t : Bool) → ltb d m ≡ s → ltb d n ≡ t → pick s 1 0 ≤ pick t 1 0
+    by : (s t : Bool) → countsFor d m ≡ s → countsFor d n ≡ t → pick s 1 0 ≤ pick t 1 0
     by true true x y = omega arith
     by true false x y = absurd (omega (arith, ltb-true d m x, ltb-false d n y))
     by false true x y = omega arith
