@@ -2,10 +2,10 @@
 -- Assumes nothing.
 use mathlib.Core.Path.{_≡_, refl, sym, ap, _∙_}
 use Prim.Native.Nat.{ℕ, _≤_}
-use mathlib.Core.Bool.{Bool, true, false, _&&_, _||_}
+use mathlib.Core.Bool.{Bool, true, false, not, _&&_, _||_}
 use mathlib.Core.List.{List}
 use lib.Dec.{eqb, ltb}
-use borrow.Author.Tests.{ltb-false, not-false, eq-eqb, ne-eqb}
+use borrow.Author.Tests.{ltb-false, not-false, eqb-true, ne-eqb}
 use Rattle.ground.specs.Grounds.{firstOf}
 use Rattle.calendar.specs.Leaps.{goodList}
 use Rattle.tag.specs.Tags.{tagOf, goodTag, readBy}
@@ -68,12 +68,18 @@ module _ (leaps : List ℕ) (w : Watch) (b : ℕ) (s : List ℕ) where
   pub lent-number : {n : ℕ} → n ≡ firstOf (lent leaps w) → (n ≡ 0 → ⊥) → n ≡ refusalOf leaps w b s
   lent-number e h = sym (both-lists ∙ sym (no _ refl (ne-eqb (firstOf (lent leaps w)) 0 (λ z. h (e ∙ z))) e))
 
-  -- of what reading its tag answered
-  pub offered-number : {n m : ℕ} {r : TagRead} {good : Bool} → n ≡ firstOf (lent leaps w) → n ≡ 0 → r ≡ readBy leaps s → good ≡ eqb (r .number) 0 → m ≡ firstOf (offered b good) → m ≡ refusalOf leaps w b s
-  offered-number e z f g h =
-      h ∙ ap (λ (t : Bool). firstOf (offered b t)) (g ∙ ap (λ (q : TagRead). eqb (q .number) 0) f ∙ accepted-by leaps s)
-      ∙ yes _ refl (eq-eqb (firstOf (lent leaps w)) 0 (sym e ∙ z)) refl
-      ∙ sym both-lists
+  -- of a record that passed, by what reading the offered tag answered
+  module _ {n m : ℕ} {r : TagRead} {t good : Bool} (lent-is : n ≡ firstOf (lent leaps w)) (test : t ≡ eqb n 0) (left : not t ≡ false) (read : r ≡ readBy leaps s) (good-is : good ≡ eqb (r .number) 0)
+      (offered-is : m ≡ firstOf (offered b good)) where
+    pub offered-number : m ≡ refusalOf leaps w b s
+    offered-number =
+        offered-is
+        ∙ ap (λ (g : Bool). firstOf (offered b g)) (good-is ∙ ap (λ (q : TagRead). eqb (q .number) 0) read ∙ accepted-by leaps s)
+        ∙ yes _ refl (ap (λ (k : ℕ). eqb k 0) (sym lent-is) ∙ sym test ∙ not-false t left) refl
+        ∙ sym both-lists
+
+    pub no-number : {u : Bool} → u ≡ eqb m 0 → not u ≡ false → refusalOf leaps w b s ≡ 0
+    no-number {u} e h = sym offered-number ∙ eqb-true m 0 (sym e ∙ not-false u h)
 
   pub tag-of : {r : TagRead} → r ≡ readBy leaps s → refusalOf leaps w b s ≡ 0 → r .tag ≡ tagOf s
   tag-of e h = λ i. (e ∙ reads leaps s (accepted-for leaps w b s h .tag)) i .tag

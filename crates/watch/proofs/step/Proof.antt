@@ -5,7 +5,7 @@ use mathlib.Core.Path.{_≡_, ap, sym, _∙_}
 use Prim.Native.Nat.{ℕ}
 use lib.Dec.{eqb}
 use borrow.Author.Needs.{needs}
-use borrow.Author.Tests.{eqb-true, eqb-false, not-true, not-false}
+use borrow.Author.Tests.{eqb-false, not-true}
 use Rattle.ground.specs.Choice.{pick}
 use Rattle.ground.proofs.LawsGrounds.{accepts, refuses}
 use Rattle.calendar.proofs.LawsLists.{short}
@@ -15,7 +15,7 @@ use Rattle.watch.specs.Rules.{onGood, stepOf}
 use Rattle.watch.specs.declared.Watch.{Watch}
 use Rattle.watch.specs.declared.Stepped.{Stepped}
 use Rattle.watch.specs.declared.Verdict.the-variants.{Refused}
-use Rattle.watch.proofs.LawsRules.{stepped, accepted-for, to-ten, lent-number, offered-number, tag-of}
+use Rattle.watch.proofs.LawsRules.{stepped, accepted-for, to-ten, lent-number, offered-number, no-number, tag-of}
 use Rattle.watch.proofs.step.Statement.{statement}
 use Rattle.watch.proofs.step.Tie as tie
 
@@ -39,23 +39,22 @@ returns-2 c =
     let read = number .before .before in
     let lent = read .before .before .before in
     let a = lent .before .before .before .args in
-    let none = eqb-true (lent .lent .result) 0 (sym (read .before .before .is .ensures) ∙ not-false _ (read .before .if1 .left)) in
     let is-number =
-    offered-number (a .leaps .now) (a .w) (a .block) (a .tag .now) (lent .lent .ensures) none (read .read-by .ensures) (number .before .is2 .ensures) (number .offered .ensures) in
+    offered-number (a .leaps .now) (a .w) (a .block) (a .tag .now) (lent .lent .ensures) (read .before .before .is .ensures) (read .before .if1 .left) (read .read-by .ensures) (number .before .is2 .ensures)
+    (number .offered .ensures) in
     let refused = eqb-false (number .offered .result) 0 (sym (c .before .before .is3 .ensures) ∙ not-true _ (c .before .if2 .taken)) in
     c .refused2 .ensures ∙ by-number (a .w) (onGood (a .leaps .now) (a .w) (a .block) (tagOf (a .tag .now))) is-number refused
 
 on-good-requires : tie.Need-on-good-requires
 on-good-requires c κs =
-    let number = c .before .before .before in
-    let read = number .before .before in
+    let test = c .before .before in
+    let read = test .before .before .before in
     let lent = read .before .before .before in
     let a = lent .before .before .before .args in
-    let none = eqb-true (lent .lent .result) 0 (sym (read .before .before .is .ensures) ∙ not-false _ (read .before .if1 .left)) in
-    let is-number =
-    offered-number (a .leaps .now) (a .w) (a .block) (a .tag .now) (lent .lent .ensures) none (read .read-by .ensures) (number .before .is2 .ensures) (number .offered .ensures) in
-    let zero = sym is-number ∙ eqb-true (number .offered .result) 0 (sym (c .before .before .is3 .ensures) ∙ not-false _ (c .before .if2 .left)) in
-    let passed = accepted-for (a .leaps .now) (a .w) (a .block) (a .tag .now) zero in
+    let passed =
+    accepted-for (a .leaps .now) (a .w) (a .block) (a .tag .now)
+    (no-number (a .leaps .now) (a .w) (a .block) (a .tag .now) (lent .lent .ensures) (read .before .before .is .ensures) (read .before .if1 .left) (read .read-by .ensures) (test .before .before .is2 .ensures)
+    (test .before .offered .ensures) (test .is3 .ensures) (c .before .if2 .left)) in
     (to-ten (a .w) (passed .expected), short (a .leaps .now) (passed .list))
 
 returns-3 : tie.Need-returns-3
@@ -65,10 +64,9 @@ returns-3 c =
     let read = number .before .before in
     let lent = read .before .before .before in
     let a = lent .before .before .before .args in
-    let none = eqb-true (lent .lent .result) 0 (sym (read .before .before .is .ensures) ∙ not-false _ (read .before .if1 .left)) in
-    let is-number =
-    offered-number (a .leaps .now) (a .w) (a .block) (a .tag .now) (lent .lent .ensures) none (read .read-by .ensures) (number .before .is2 .ensures) (number .offered .ensures) in
-    let zero = sym is-number ∙ eqb-true (number .offered .result) 0 (sym (c .before .before .before .is3 .ensures) ∙ not-false _ (c .before .before .if2 .left)) in
+    let zero =
+    no-number (a .leaps .now) (a .w) (a .block) (a .tag .now) (lent .lent .ensures) (read .before .before .is .ensures) (read .before .if1 .left) (read .read-by .ensures) (number .before .is2 .ensures)
+    (number .offered .ensures) (c .before .before .before .is3 .ensures) (c .before .before .if2 .left) in
     c .on-good .ensures
     ∙ ap (λ (t : Tag). onGood (a .leaps .now) (a .w) (a .block) t) (tag-of (a .leaps .now) (a .w) (a .block) (a .tag .now) (read .read-by .ensures) zero)
     ∙ accepts (onGood (a .leaps .now) (a .w) (a .block) (tagOf (a .tag .now))) (λ (n : ℕ). stepped (a .w) (Refused n)) zero
