@@ -5,7 +5,7 @@ use Rattle.calendar.proofs.leaps.follows.Statement.{statement}
 use Rattle.calendar.proofs.leaps.follows.Tie as tie
 
 returns : tie.Need-returns
-returns c = cc
+returns c = rw (c .is-possible .ensures)
 
 pub follows-spec : {M : Type 1} → statement M
 follows-spec = tie.close (tie.spec (λ c κs. search needs) returns)
