@@ -1,4 +1,4 @@
--- What is promised of a watch that C keeps as ten numbers: they are the watch, so that offer after offer they follow it, and what is
+-- What is promised of a watch that C keeps as eleven numbers: they are the watch, so that offer after offer they follow it, and what is
 -- promised of any offers holds of them.
 -- Assumes nothing.
 use Prim.Native.Nat.{ℕ, _≤_}
@@ -11,7 +11,7 @@ use Rattle.c_watch.specs.Watches.{watchIn, rowAfter, rowBegun}
 -- The row after offers with one list of leap days, from the row before them.
 unfoldable pub rowsAfter : List ℕ → List ℕ → List Offer → List ℕ
 rowsAfter leaps row [] = row
-rowsAfter leaps row (o ∷ os) = rowsAfter leaps (rowAfter (stepOf leaps (watchIn row) (o .block) (o .tag)) row) os
+rowsAfter leaps row (o ∷ os) = rowsAfter leaps (rowAfter (stepOf leaps (watchIn row) (o .block) (o .valid) (o .tag)) row) os
 
 -- A row that was begun, and any row whatever, reads after offers as the watch does.
 pub record RowFollows : Type 0 where

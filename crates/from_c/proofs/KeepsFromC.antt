@@ -7,6 +7,7 @@ use mathlib.Core.Logic.{_⊎_, inl, inr, ⊎-elim}
 use mathlib.Core.Bool.{Bool, true, false, not, _||_}
 use mathlib.Core.List.{List, [], _∷_, _++_}
 use lib.Dec.{lit≤, eqb, ltb, leb}
+use lib.Count.{ones}
 use lib.ListN.{length, getD, drop, replicate}
 use borrow.Author.Tests.{ltb-true, ltb-false, leb-true, leb-false, eqb-true, eqb-false, eq-eqb, ne-eqb, le-ltb, not-true, not-false}
 use Rattle.ground.specs.Choice.{pick}
@@ -37,15 +38,17 @@ use Rattle.tag.specs.declared.Tag.{Tag}
 use Rattle.tag.proofs.KeepsTable.{all-differ}
 use Rattle.time.proofs.KeepsTable.{row9, across-leap}
 use Rattle.time.proofs.LawsYears.{quick}
-use Rattle.watch.specs.Verdicts.{numberOf, kindOf}
-use Rattle.watch.specs.Bounds.{refusalOf}
-use Rattle.watch.specs.Rules.{expecting, inTime, onOpen, onGood, stepOf}
-use Rattle.watch.specs.declared.Watch.{Watch}
+use Rattle.watch_rule.specs.Rules.{inTime, ruleOf}
+use Rattle.watch_rule.specs.declared.Closing.the-variants.{ClockBack, Late, Broken, Complete}
+use Rattle.watch_bounds.specs.Bounds.{refusalOf}
+use Rattle.watch_bounds.specs.declared.Watch.{Watch}
+use Rattle.watch.specs.Verdicts.{numberOf, kindOf, fillOf, countOf as filledOf}
+use Rattle.watch.specs.Fills.{filled}
+use Rattle.watch.specs.Rules.{idle, expecting, onGood, stepOf}
 use Rattle.watch.specs.declared.Stepped.{Stepped}
-use Rattle.watch.specs.declared.Closing.the-variants.{ClockBack, Late, Broken, Complete}
 use Rattle.watch.specs.declared.Verdict.{Verdict}
 use Rattle.watch.specs.declared.Verdict.the-variants.{Refused, Stray, Opened, Kept, Closed}
-use Rattle.watch.proofs.LawsRules.{stepped}
+use Rattle.watch.proofs.LawsSteps.{stepped}
 use Rattle.watch.proofs.KeepsRules.{beginning}
 use Rattle.recording.specs.Found.{foundAt, answered}
 use Rattle.recording.specs.Lines.{mostFields, seqAfter, holdsBlock, refusedLine, lineOf, roomListed}
@@ -91,49 +94,49 @@ time-same : (t : Tag) → numbersOf t ≡ time t
 time-same t = ap (λ (n : ℕ). t .year ∷ t .day ∷ t .hour ∷ t .minute ∷ t .second ∷ t .ms ∷ n ∷ []) (mark-same (t .flywheel))
 
 watch-same : (w : Watch) → numbersOfWatch w ≡ watch w
-watch-same w = λ i. mark-same (w .opened) i ∷ w .expected ∷ (time-same (w .last) i ++ (w .limit ∷ []))
+watch-same w = λ i. mark-same (w .opened) i ∷ w .expected ∷ (time-same (w .last) i ++ (w .limit ∷ w .fill ∷ []))
 
 code-same : (v : Verdict) → kindOf v ≡ code v
 code-same (Refused n) = refl
 code-same Stray = refl
 code-same Opened = refl
 code-same Kept = refl
-code-same (Closed ClockBack) = refl
-code-same (Closed Late) = refl
-code-same (Closed Broken) = refl
-code-same (Closed Complete) = refl
+code-same (Closed ClockBack fill count) = refl
+code-same (Closed Late fill count) = refl
+code-same (Closed Broken fill count) = refl
+code-same (Closed Complete fill count) = refl
 
 left : (v : Verdict) → code v ≤ 1 → leaves v ≡ true
 left (Refused n) h = refl
 left Stray h = refl
 left Opened h = absurd (omega arith)
 left Kept h = absurd (omega arith)
-left (Closed ClockBack) h = absurd (omega arith)
-left (Closed Late) h = absurd (omega arith)
-left (Closed Broken) h = absurd (omega arith)
-left (Closed Complete) h = absurd (omega arith)
+left (Closed ClockBack fill count) h = absurd (omega arith)
+left (Closed Late fill count) h = absurd (omega arith)
+left (Closed Broken fill count) h = absurd (omega arith)
+left (Closed Complete fill count) h = absurd (omega arith)
 
 changed : (v : Verdict) → 2 ≤ code v → leaves v ≡ false
 changed (Refused n) h = absurd (omega arith)
 changed Stray h = absurd (omega arith)
 changed Opened h = refl
 changed Kept h = refl
-changed (Closed why) h = refl
+changed (Closed why fill count) h = refl
 
-module _ (leaps row : List ℕ) (block : ℕ) (tag : List ℕ) where
+module _ (leaps row : List ℕ) (block valid : ℕ) (tag : List ℕ) where
   -- the offer to the watch of numbers that are cut, and to that of the numbers themselves
   abbrev r : Stepped
-  r = stepOf leaps (watchIn row) (upTo 255 block) tag
+  r = stepOf leaps (watchIn row) (upTo 255 block) (upTo 255 valid) tag
 
   abbrev q : Stepped
-  q = stepOf leaps (watchAt row) block tag
+  q = stepOf leaps (watchAt row) block valid tag
 
   did : {verdict : ℕ} → verdict ≡ kindOf (r .verdict) → verdict ≡ code (q .verdict)
-  did e = e ∙ ap kindOf (follows leaps row block tag .did) ∙ code-same (q .verdict)
+  did e = e ∙ ap kindOf (follows leaps row block valid tag .did) ∙ code-same (q .verdict)
 
   module _ {verdict : ℕ} {after : List ℕ} (e : verdict ≡ kindOf (r .verdict)) (f : after ≡ rowAfter r row) where
     row-by : (t : Bool) → leaves (q .verdict) ≡ t → after ≡ pick t row (numbersOfWatch (r .next))
-    row-by t h = f ∙ ap (λ (x : Bool). pick x row (numbersOfWatch (r .next))) (ap leaves (follows leaps row block tag .did) ∙ h)
+    row-by t h = f ∙ ap (λ (x : Bool). pick x row (numbersOfWatch (r .next))) (ap leaves (follows leaps row block valid tag .did) ∙ h)
 
     as-it-was : verdict ≤ 1 → after ≡ row
     as-it-was h = row-by true (left (q .verdict) (subst (λ (n : ℕ). n ≤ 1) (did e) h))
@@ -141,7 +144,7 @@ module _ (leaps row : List ℕ) (block : ℕ) (tag : List ℕ) where
     as-next : 2 ≤ verdict → after ≡ watch (q .next)
     as-next h =
         let c : leaves (q .verdict) ≡ false = changed (q .verdict) (subst (λ (n : ℕ). 2 ≤ n) (did e) h) in
-        row-by false c ∙ ap numbersOfWatch (follows leaps row block tag .next c) ∙ watch-same (q .next)
+        row-by false c ∙ ap numbersOfWatch (follows leaps row block valid tag .next c) ∙ watch-same (q .next)
 
 -- ---- recordings
 
@@ -265,12 +268,17 @@ from-c = record {
     λ h. let e = beginning .taken (g .0) h in (x .allowed .0 ∙ (λ i. e i .number), x .allowed .1 ∙ (λ i. rowBegun (e i) (g .1 .0 .now))),
     λ h. let e = beginning .refused (g .0) h in (x .allowed .0 ∙ (λ i. e i .number), x .allowed .1 ∙ (λ i. rowBegun (e i) (g .1 .0 .now))),
   );
-  offer = λ _ g x. let p = x .allowed in (
-    p .0 ∙ ap numberOf (follows (g .1 .1 .1 .0 .now) (g .0 .now) (g .1 .0) (g .1 .1 .0 .now) .did),
-    did (g .1 .1 .1 .0 .now) (g .0 .now) (g .1 .0) (g .1 .1 .0 .now) (p .1 .0),
-    as-it-was (g .1 .1 .1 .0 .now) (g .0 .now) (g .1 .0) (g .1 .1 .0 .now) (p .1 .0) (p .1 .1),
-    as-next (g .1 .1 .1 .0 .now) (g .0 .now) (g .1 .0) (g .1 .1 .0 .now) (p .1 .0) (p .1 .1),
-  );
+  offer = λ _ g x.
+      let p = x .allowed in
+      let row = g .0 .now in let block = g .1 .0 in let valid = g .1 .1 .0 in let tag = g .1 .1 .1 .0 .now in let leaps = g .1 .1 .1 .1 .0 .now in
+      let same = follows leaps row block valid tag .did in (
+        p .0 ∙ ap numberOf same,
+        did leaps row block valid tag (p .1 .0),
+        p .1 .1 .0 ∙ ap fillOf same,
+        p .1 .1 .1 .0 ∙ ap filledOf same,
+        as-it-was leaps row block valid tag (p .1 .0) (p .1 .1 .1 .1),
+        as-next leaps row block valid tag (p .1 .0) (p .1 .1 .1 .1),
+      );
   next = λ _ g x. let p = x .allowed in tells (foundAt (g .0 .now) (g .1 .0)) (p .0) (p .1 .0) (p .1 .1 .0) (p .1 .1 .1);
   line = λ _ g x.
       let before = g .0 in let tag = g .1 .0 in let body = g .1 .1 .0 .now in let room = g .1 .1 .1 .0 .now in
@@ -325,10 +333,22 @@ plan-2 : planOf (2 ∷ 10 ∷ 0 ∷ 86 ∷ 0 ∷ 0 ∷ 0 ∷ 3 ∷ replicate 20 
 unfolding planOf says.numberOf rowOf permits recordsIn fieldBits fieldBytes
 plan-2 = refl
 
-keeps : stepOf [] (watchIn (1 ∷ 3 ∷ 1987 ∷ 234 ∷ 21 ∷ 43 ∷ 56 ∷ 789 ∷ 1 ∷ 5000 ∷ [])) (upTo 255 3) (0x19 ∷ 0x87 ∷ 0x23 ∷ 0x42 ∷ 0x14 ∷ 0x35 ∷ 0x89 ∷ 0x12 ∷ [])
-    ≡ stepped (expecting 4 (record { year = 1987; day = 234; hour = 21; minute = 43; second = 58; ms = 912; flywheel = false }) 5000) Kept
-unfolding upTo stepOf refusalOf onGood onOpen inTime risesFrom goodList listed listedBefore digitsOf decimal valueOf tagOf goodSecond inBounds goodTag countOf timeOf
+-- both printed offers come 2,123 ms after the last tag
+abbrev tag-912 : List ℕ
+tag-912 = 0x19 ∷ 0x87 ∷ 0x23 ∷ 0x42 ∷ 0x14 ∷ 0x35 ∷ 0x89 ∷ 0x12 ∷ []
+
+keeps : stepOf [] (watchIn (1 ∷ 3 ∷ 1987 ∷ 234 ∷ 21 ∷ 43 ∷ 56 ∷ 789 ∷ 1 ∷ 5000 ∷ 1 ∷ [])) (upTo 255 3) (upTo 255 2) tag-912
+    ≡ stepped (expecting 4 (record { year = 1987; day = 234; hour = 21; minute = 43; second = 58; ms = 912; flywheel = false }) 5000 9) Kept
+unfolding upTo stepOf refusalOf onGood ruleOf inTime filled risesFrom goodList listed listedBefore digitsOf decimal valueOf tagOf goodSecond inBounds goodTag countOf timeOf
 keeps = rw (← quick 1987)
+
+completes : stepOf [] (watchIn (1 ∷ 10 ∷ 1987 ∷ 234 ∷ 21 ∷ 43 ∷ 56 ∷ 789 ∷ 1 ∷ 5000 ∷ 36 ∷ [])) (upTo 255 10) (upTo 255 0) tag-912 ≡ stepped (idle 5000) (Closed Complete 1060 3)
+unfolding upTo stepOf refusalOf onGood ruleOf inTime filled ones risesFrom goodList listed listedBefore digitsOf decimal valueOf tagOf goodSecond inBounds goodTag countOf timeOf
+completes = rw (← quick 1987)
+
+-- the places of an offer afterwards: of the two slices and the two numbers nothing is said
+abbrev places : (row : List ℕ) (verdict fill count : ℕ) → List ℕ × (Unit {0} × (Unit {0} × (Unit {0} × (Unit {0} × (ℕ × (ℕ × (ℕ × Unit {0})))))))
+places row verdict fill count = (row, (tt, (tt, (tt, (tt, (verdict, (fill, (count, tt))))))))
 
 found-258 : foundAt (0x01 ∷ 0x01 ∷ 0x02 ∷ replicate 258 0) 0 ≡ Whole 1 3 258
 unfolding foundAt
@@ -358,10 +378,14 @@ rows-from-c = record {
   read-tag = λ _ g x h d. let e = (λ i. readTag (d i) (h i)) ∙ all-differ in (x .allowed .0 ∙ (λ i. e i .number), λ i. (tt, (tt, ((x .allowed .1 ∙ (λ j. numbersOf (e j .tag))) i, tt))));
   row9 = λ _ g x h k d. let e = x .allowed ∙ (λ i. elapsedOf (d i) (h i) (k i)) ∙ row9 .forward in (λ i. e i .number, λ i. (tt, (tt, (tt, (e i .ms, tt)))));
   leap = λ _ g x h k d. let e = x .allowed ∙ (λ i. elapsedOf (d i) (h i) (k i)) ∙ across-leap .with in (λ i. e i .number, λ i. (tt, (tt, (tt, (e i .ms, tt)))));
-  kept = λ _ g x h b t d.
+  kept = λ _ g x h b v t d.
       let p = x .allowed in
-      let e = (λ i. stepOf (d i) (watchIn (h i)) (upTo 255 (b i)) (t i)) ∙ keeps in
-      (p .0 ∙ (λ i. numberOf (e i .verdict)), λ i. ((p .1 .1 ∙ (λ j. rowAfter (e j) (h j))) i, (tt, (tt, (tt, ((p .1 .0 ∙ (λ j. kindOf (e j .verdict))) i, tt))))));
+      let e = (λ i. stepOf (d i) (watchIn (h i)) (upTo 255 (b i)) (upTo 255 (v i)) (t i)) ∙ keeps in
+      (p .0 ∙ (λ i. numberOf (e i .verdict)), λ i. places ((p .1 .1 .1 .1 ∙ (λ j. rowAfter (e j) (h j))) i) ((p .1 .0 ∙ (λ j. kindOf (e j .verdict))) i) ((p .1 .1 .0 ∙ (λ j. fillOf (e j .verdict))) i) ((p .1 .1 .1 .0 ∙ (λ j. filledOf (e j .verdict))) i));
+  complete = λ _ g x h b v t d.
+      let p = x .allowed in
+      let e = (λ i. stepOf (d i) (watchIn (h i)) (upTo 255 (b i)) (upTo 255 (v i)) (t i)) ∙ completes in
+      (p .0 ∙ (λ i. numberOf (e i .verdict)), λ i. places ((p .1 .1 .1 .1 ∙ (λ j. rowAfter (e j) (h j))) i) ((p .1 .0 ∙ (λ j. kindOf (e j .verdict))) i) ((p .1 .1 .0 ∙ (λ j. fillOf (e j .verdict))) i) ((p .1 .1 .1 .0 ∙ (λ j. filledOf (e j .verdict))) i));
   row7 = λ _ g x f s c r.
       let field = g .0 .now in let size = g .1 .0 in let count = g .1 .1 .0 in let room = g .1 .1 .1 .0 .now in (
         x .allowed .0 ∙ take-cut count field room size ∙ (λ i. takeAnswer (s i) (c i) (f i) (length (r i))),

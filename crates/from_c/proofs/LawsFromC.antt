@@ -1,7 +1,7 @@
 -- Numbers that C gives are cut to the largest that a smaller type holds, which is out of every bound: so the answer is that of the number
 -- itself, in each place where one is cut.
 -- Assumes nothing.
-use Prim.Native.Nat.{ℕ, zero, suc, _+_, _≤_, _<_}
+use Prim.Native.Nat.{ℕ, zero, suc, _+_, _^_, _≤_, _<_}
 use native.Mathlib.Omega.{arith}
 use mathlib.Core.Path.{_≡_, refl, sym, ap, ap₂, _∙_, subst}
 use mathlib.Core.Logic.{_⊎_, inl, inr, ⊎-elim}
@@ -28,13 +28,16 @@ use Rattle.tag.specs.Promises.{Bounded}
 use Rattle.tag.specs.declared.Tag.{Tag}
 use Rattle.tag.proofs.LawsBounds.{facts, day-below, second-below}
 use Rattle.tag.proofs.LawsTags.{written}
-use Rattle.watch.specs.Bounds.{longestWait, lastOfScan, refusalOf}
-use Rattle.watch.specs.Rules.{expecting, onIdle, onGood, stepOf}
-use Rattle.watch.specs.declared.Watch.{Watch}
+use Rattle.watch_rule.specs.Rules.{lastOfScan}
+use Rattle.watch_bounds.specs.Bounds.{longestWait, bounding, badExpected, refusalOf}
+use Rattle.watch_bounds.specs.declared.Watch.{Watch}
+use Rattle.watch_bounds.proofs.LawsBounds.{accepted-for, to-ten}
+use Rattle.watch.specs.Fills.{isFill}
+use Rattle.watch.specs.Rules.{opening, onIdle, onGood, stepOf}
 use Rattle.watch.specs.declared.Stepped.{Stepped}
 use Rattle.watch.specs.declared.Verdict.{Verdict}
 use Rattle.watch.specs.declared.Verdict.the-variants.{Refused, Stray, Opened}
-use Rattle.watch.proofs.LawsRules.{stepped, accepted-for, to-ten}
+use Rattle.watch.proofs.LawsSteps.{stepped, same-step}
 use Rattle.recording.specs.Lines.{lineOf, roomListed}
 use Rattle.recording.proofs.KeepsLines.{other-line}
 use Rattle.c_numbers.specs.Numbers.{upTo}
@@ -196,17 +199,17 @@ module _ (before : ℕ) (body : List ℕ) where
 far : (n : ℕ) → 255 < n → ltb n 1 || ltb 10 n ≡ true
 far n l = ap (λ (x : Bool). ltb n 1 || x) (lt-ltb 10 n (omega arith)) ∙ or-true (ltb n 1)
 
-refusing : (leaps : List ℕ) (w : Watch) (b : ℕ) (s : List ℕ) → (refusalOf leaps w b s ≡ 0 → ⊥) → stepOf leaps w b s ≡ stepped w (Refused (refusalOf leaps w b s))
+refusing : (leaps : List ℕ) (w : Watch) (b v : ℕ) (s : List ℕ) → (refusalOf leaps w b s ≡ 0 → ⊥) → stepOf leaps w b v s ≡ stepped w (Refused (refusalOf leaps w b s))
 unfolding stepOf
-refusing leaps w b s h = sym (no _ refl (ne-eqb (refusalOf leaps w b s) 0 h) refl)
+refusing leaps w b v s h = sym (no _ refl (ne-eqb (refusalOf leaps w b s) 0 h) refl)
 
 -- an accepted offer to an idle watch
-module _ (leaps : List ℕ) (w : Watch) (b : ℕ) (s : List ℕ) (e : refusalOf leaps w b s ≡ 0) (o : w .opened ≡ false) where
-  opened-at : b ≡ 0 → stepOf leaps w b s ≡ stepped (expecting 1 (tagOf s) (w .limit)) Opened
+module _ (leaps : List ℕ) (w : Watch) (b v : ℕ) (s : List ℕ) (e : refusalOf leaps w b s ≡ 0) (o : w .opened ≡ false) where
+  opened-at : b ≡ 0 → stepOf leaps w b v s ≡ stepped (opening v (tagOf s) (w .limit)) Opened
   unfolding stepOf onGood onIdle
   opened-at z = sym (yes _ refl (eq-eqb (refusalOf leaps w b s) 0 e) (no _ refl o (yes _ refl (eq-eqb b 0 z) refl)))
 
-  strayed-at : (b ≡ 0 → ⊥) → stepOf leaps w b s ≡ stepped w Stray
+  strayed-at : (b ≡ 0 → ⊥) → stepOf leaps w b v s ≡ stepped w Stray
   unfolding stepOf onGood onIdle
   strayed-at n = sym (yes _ refl (eq-eqb (refusalOf leaps w b s) 0 e) (no _ refl o (no _ refl (ne-eqb b 0 n) refl)))
 
@@ -225,7 +228,7 @@ left h e f = record {
   next = λ n. never (sym n ∙ ap (λ (x : Stepped). leaves (x .verdict)) f ∙ h);
 }
 
-module _ (leaps row : List ℕ) (block : ℕ) (s : List ℕ) where
+module _ (leaps row : List ℕ) (block v : ℕ) (s : List ℕ) where
   abbrev w′ : Watch
   w′ = watchIn row
 
@@ -235,14 +238,39 @@ module _ (leaps row : List ℕ) (block : ℕ) (s : List ℕ) where
   abbrev b′ : ℕ
   b′ = upTo 255 block
 
+  expected-cut : badExpected w′ ≡ badExpected w
+  expected-cut = λ i. on-same (getD row 0 0) i && cut-test (λ n. ltb n 1 || ltb lastOfScan n) refl far (getD row 1 0) i
+
+  -- what bounds the set of a watch whose expected block is in bounds
+  bounding-cut : badExpected w ≡ false → bounding w′ ≡ bounding w
+  bounding-cut e = ap (λ (x : Bool). pick x (w′ .expected) 0) (on-same (getD row 0 0)) ∙ go (w .opened) (to-ten w e)
+    where
+      go : (x : Bool) → (x ≡ true → w .expected ≤ 10) → pick x (w′ .expected) 0 ≡ pick x (w .expected) 0
+      go true h = let most : w .expected ≤ 10 = h refl in kept 255 (w .expected) (omega arith)
+      go false h = refl
+
+  -- what is behind 13 does not matter where that holds
+  thirteen : {x y : Bool} (m n : ℕ) → x ≡ true → y ≡ true → pick x 13 m ≡ pick y 13 n
+  thirteen m n p q = ap (λ (z : Bool). pick z 13 m) p ∙ sym (ap (λ (z : Bool). pick z 13 n) q)
+
+  -- the numbers behind 13
+  abbrev behind : Watch → ℕ → ℕ → ℕ
+  behind x n b = pick (not (ltb (x .fill) (2 ^ n))) 20 (pick (not (goodList leaps)) 19 (pick (x .opened && not (inBounds leaps (x .last))) 12 (pick (ltb lastBlock b) 4 (pick (not (goodTag leaps s)) 12 0))))
+
   number-cut : refusalOf leaps w′ b′ s ≡ refusalOf leaps w block s
   unfolding refusalOf
-  number-cut = λ i.
-      pick (ltb longestWait (w .limit)) 16
-      (pick (on-same (getD row 0 0) i && cut-test (λ n. ltb n 1 || ltb lastOfScan n) refl far (getD row 1 0) i) 13
-      (pick (not (goodList leaps)) 19
-      (pick (on-same (getD row 0 0) i && not (bounds-cut leaps 2 row i)) 12
-      (pick (cut-test (λ n. ltb lastBlock n) refl (λ n l. lt-ltb 11 n (omega arith)) block i) 4 (pick (not (goodTag leaps s)) 12 0)))))
+  number-cut = go (badExpected w) refl
+    where
+      go : (x : Bool) → badExpected w ≡ x
+          → pick (ltb longestWait (w .limit)) 16 (pick (badExpected w′) 13 (behind w′ (bounding w′) b′)) ≡ pick (ltb longestWait (w .limit)) 16 (pick (badExpected w) 13 (behind w (bounding w) block))
+      go true e = λ i. pick (ltb longestWait (w .limit)) 16 (thirteen (behind w′ (bounding w′) b′) (behind w (bounding w) block) (expected-cut ∙ e) e i)
+      go false e = λ i.
+          pick (ltb longestWait (w .limit)) 16
+          (pick (expected-cut i) 13
+          (pick (not (ltb (w .fill) (2 ^ bounding-cut e i))) 20
+          (pick (not (goodList leaps)) 19
+          (pick (on-same (getD row 0 0) i && not (bounds-cut leaps 2 row i)) 12
+          (pick (cut-test (λ n. ltb lastBlock n) refl (λ n l. lt-ltb 11 n (omega arith)) block i) 4 (pick (not (goodTag leaps s)) 12 0))))))
 
   module _ (e : refusalOf leaps w block s ≡ 0) where
     same-block : b′ ≡ block
@@ -254,28 +282,33 @@ module _ (leaps row : List ℕ) (block : ℕ) (s : List ℕ) where
       expected = kept 255 (getD row 1 0) (omega (arith, to-ten w (accepted-for leaps w block s e .expected) o)) i;
       last = whole-in leaps 2 row (good (w .opened) (inBounds leaps (w .last)) o (accepted-for leaps w block s e .last)) i;
       limit = w .limit;
+      fill = w .fill;
     }
       where
         good : (x y : Bool) → x ≡ true → x && not y ≡ false → y ≡ true
         good true y o h = not-false y h
         good false y o h = never o
 
-    when-idle : w .opened ≡ false → Follows (stepOf leaps w′ b′ s) (stepOf leaps w block s)
+    when-idle : w .opened ≡ false → Follows (stepOf leaps w′ b′ v s) (stepOf leaps w block v s)
     when-idle o = go (eqb block 0) refl
       where
-        go : (x : Bool) → eqb block 0 ≡ x → Follows (stepOf leaps w′ b′ s) (stepOf leaps w block s)
-        go true z = let b = eqb-true block 0 z in equal (opened-at leaps w′ b′ s (number-cut ∙ e) (on-same (getD row 0 0) ∙ o) (same-block ∙ b) ∙ sym (opened-at leaps w block s e o b))
-        go false z = let b = eqb-false block 0 z in left refl (strayed-at leaps w′ b′ s (number-cut ∙ e) (on-same (getD row 0 0) ∙ o) (λ n. b (sym same-block ∙ n))) (strayed-at leaps w block s e o b)
+        go : (x : Bool) → eqb block 0 ≡ x → Follows (stepOf leaps w′ b′ v s) (stepOf leaps w block v s)
+        go true z = let b = eqb-true block 0 z in equal (opened-at leaps w′ b′ v s (number-cut ∙ e) (on-same (getD row 0 0) ∙ o) (same-block ∙ b) ∙ sym (opened-at leaps w block v s e o b))
+        go false z = let b = eqb-false block 0 z in left refl (strayed-at leaps w′ b′ v s (number-cut ∙ e) (on-same (getD row 0 0) ∙ o) (λ n. b (sym same-block ∙ n))) (strayed-at leaps w block v s e o b)
 
-    when-taken : (x : Bool) → w .opened ≡ x → Follows (stepOf leaps w′ b′ s) (stepOf leaps w block s)
-    when-taken true o = equal (ap₂ (λ (v : Watch) (n : ℕ). stepOf leaps v n s) (same-watch o) same-block)
+    when-taken : (x : Bool) → w .opened ≡ x → Follows (stepOf leaps w′ b′ v s) (stepOf leaps w block v s)
+    when-taken true o = equal (ap₂ (λ (x : Watch) (n : ℕ). stepOf leaps x n v s) (same-watch o) same-block)
     when-taken false o = when-idle o
 
-  pub follows : Follows (stepOf leaps w′ b′ s) (stepOf leaps w block s)
-  follows = go (eqb (refusalOf leaps w block s) 0) refl
+  follows-row : Follows (stepOf leaps w′ b′ v s) (stepOf leaps w block v s)
+  follows-row = go (eqb (refusalOf leaps w block s) 0) refl
     where
-      go : (x : Bool) → eqb (refusalOf leaps w block s) 0 ≡ x → Follows (stepOf leaps w′ b′ s) (stepOf leaps w block s)
+      go : (x : Bool) → eqb (refusalOf leaps w block s) 0 ≡ x → Follows (stepOf leaps w′ b′ v s) (stepOf leaps w block v s)
       go true z = when-taken (eqb-true (refusalOf leaps w block s) 0 z) (w .opened) refl
       go false z =
           let h = eqb-false (refusalOf leaps w block s) 0 z in
-          left refl (refusing leaps w′ b′ s (λ e. h (sym number-cut ∙ e)) ∙ ap (λ (n : ℕ). stepped w′ (Refused n)) number-cut) (refusing leaps w block s h)
+          left refl (refusing leaps w′ b′ v s (λ e. h (sym number-cut ∙ e)) ∙ ap (λ (n : ℕ). stepped w′ (Refused n)) number-cut) (refusing leaps w block v s h)
+
+  -- and a data valid word that is cut still says fill
+  pub follows : Follows (stepOf leaps w′ b′ (upTo 255 v) s) (stepOf leaps w block v s)
+  follows = subst (λ (r : Stepped). Follows r (stepOf leaps w block v s)) (sym (same-step (upTo 255 v) v (cut-test isFill refl (λ n l. ap not (ne-eqb n 1 (λ e. omega arith))) v) leaps w′ b′ s)) follows-row

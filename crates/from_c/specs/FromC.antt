@@ -26,10 +26,10 @@ use Rattle.parity.specs.declared.Layout.the-variants.{ImagerSpacelook, SounderS
 use Rattle.tag.specs.Tags.{readTag, writeTag}
 use Rattle.time.specs.Times.{elapsedOf}
 use Rattle.tag.specs.declared.Tag.{Tag}
-use Rattle.watch.specs.Verdicts.{numberOf}
+use Rattle.watch_rule.specs.declared.Closing.the-variants.{ClockBack, Late, Broken, Complete}
+use Rattle.watch_bounds.specs.declared.Watch.{Watch}
+use Rattle.watch.specs.Verdicts.{numberOf, fillOf, countOf}
 use Rattle.watch.specs.Rules.{stepOf}
-use Rattle.watch.specs.declared.Watch.{Watch}
-use Rattle.watch.specs.declared.Closing.the-variants.{ClockBack, Late, Broken, Complete}
 use Rattle.watch.specs.declared.Verdict.{Verdict}
 use Rattle.watch.specs.declared.Verdict.the-variants.{Refused, Stray, Opened, Kept, Closed}
 use Rattle.recording.specs.Found.{foundAt}
@@ -86,12 +86,12 @@ timeAt n row =
     let at : ℕ → ℕ = λ k. getD row (n + k) 0 in
     record { year = getD row n 0; day = at 1; hour = at 2; minute = at 3; second = at 4; ms = at 5; flywheel = isOn (at 6) }
 
--- a watch is ten: open, expected block, the last tag in places 2 to 8, limit
+-- a watch is eleven: open, expected block, the last tag in places 2 to 8, limit, set of fill blocks
 abbrev pub watch : Watch → List ℕ
-watch w = mark (w .opened) ∷ w .expected ∷ (time (w .last) ++ (w .limit ∷ []))
+watch w = mark (w .opened) ∷ w .expected ∷ (time (w .last) ++ (w .limit ∷ w .fill ∷ []))
 
 abbrev pub watchAt : List ℕ → Watch
-watchAt row = record { opened = isOn (getD row 0 0); expected = getD row 1 0; last = timeAt 2 row; limit = getD row 9 0 }
+watchAt row = record { opened = isOn (getD row 0 0); expected = getD row 1 0; last = timeAt 2 row; limit = getD row 9 0; fill = getD row 10 0 }
 
 -- what an offer did
 abbrev pub code : Verdict → ℕ
@@ -99,10 +99,10 @@ code (Refused n) = 0
 code Stray = 1
 code Opened = 2
 code Kept = 3
-code (Closed ClockBack) = 4
-code (Closed Late) = 5
-code (Closed Broken) = 6
-code (Closed Complete) = 7
+code (Closed ClockBack fill count) = 4
+code (Closed Late fill count) = 5
+code (Closed Broken fill count) = 6
+code (Closed Complete fill count) = 7
 
 -- what was found in a recording, and zeros where it is no field
 abbrev pub Tells : Found → (answer tag start long : ℕ) → Type 0
@@ -153,12 +153,13 @@ pub record FromC : Type 0 where
       (answer ≡ elapsedOf (now leaps) (now from) (now to) .number) × (ms ≡ elapsedOf (now leaps) (now from) (now to) .ms))
   -- the scan watch: a limit above 3,600,000 ms is 16, and the watch is as it was
   pub begin : Every rahmisve_watch_begin.ended rahmisve_watch_begin.Reads.Learnt (λ _ (limit, (row, _)) answer (_, (begun, _)).
-      (limit ≤ 3600000 → (answer ≡ 0) × (begun ≡ 0 ∷ 0 ∷ 0 ∷ 0 ∷ 0 ∷ 0 ∷ 0 ∷ 0 ∷ 0 ∷ limit ∷ []))
+      (limit ≤ 3600000 → (answer ≡ 0) × (begun ≡ 0 ∷ 0 ∷ 0 ∷ 0 ∷ 0 ∷ 0 ∷ 0 ∷ 0 ∷ 0 ∷ limit ∷ 0 ∷ []))
       × (3600000 < limit → (answer ≡ 16) × (begun ≡ now row)))
-  -- refused (0), and as a stray (1), it is as it was
-  pub offer : Every rahmisve_watch_offer.ended rahmisve_watch_offer.Reads.Learnt (λ _ (row, (block, (tag, (leaps, _)))) answer (after, (_, (_, (_, (verdict, _))))).
-      let s = stepOf (now leaps) (watchAt (now row)) block (now tag) in
-      (answer ≡ numberOf (s .verdict)) × (verdict ≡ code (s .verdict)) × (verdict ≤ 1 → after ≡ now row) × (2 ≤ verdict → after ≡ watch (s .next)))
+  -- refused (0), and as a stray (1), it is as it was; the set and its count are what a closing hands over, else 0
+  pub offer : Every rahmisve_watch_offer.ended rahmisve_watch_offer.Reads.Learnt (λ _ (row, (block, (valid, (tag, (leaps, _))))) answer (after, (_, (_, (_, (_, (verdict, (fill, (count, _)))))))).
+      let s = stepOf (now leaps) (watchAt (now row)) block valid (now tag) in
+      (answer ≡ numberOf (s .verdict)) × (verdict ≡ code (s .verdict)) × (fill ≡ fillOf (s .verdict)) × (count ≡ countOf (s .verdict))
+      × (verdict ≤ 1 → after ≡ now row) × (2 ≤ verdict → after ≡ watch (s .next)))
   -- recordings: what stands from a byte on
   pub next : Every rahmisve_next_field.ended rahmisve_next_field.Reads.Learnt (λ _ (recording, (at, _)) answer (_, (_, (tag, (start, (long, _))))).
       Tells (foundAt (now recording) at) answer tag start long)
@@ -186,7 +187,7 @@ pub record FromC : Type 0 where
       × (recorded ≡ recordingAfter (now input) (now recording) r w) × (reported ≡ reportAfter (now input) m (now report) w)
       × (read ≡ scratchAfter (now input) m r (now scratch)))
   -- this interface
-  pub version : Every rahmisve_version.ended rahmisve_version.Reads.Learnt (λ _ _ answer _. answer ≡ 4)
+  pub version : Every rahmisve_version.ended rahmisve_version.Reads.Learnt (λ _ _ answer _. answer ≡ 5)
   -- what a block is made of
   pub check : Every rahmisve_check_word.ended rahmisve_check_word.Reads.Learnt (λ _ (message, _) answer _. answer ≡ checkWord (now message))
   -- 6: a size outside 1 to 16. 8: the field has fewer bits. 9: less room
@@ -224,10 +225,16 @@ pub record RowsFromC : Type 0 where
   pub leap : Every rahmisve_elapsed.ended rahmisve_elapsed.Reads.Learnt (λ _ (from, (to, (leaps, _))) answer left.
       now from ≡ 0x20 ∷ 0x16 ∷ 0x36 ∷ 0x62 ∷ 0x35 ∷ 0x95 ∷ 0x90 ∷ 0x00 ∷ [] → now to ≡ 0x20 ∷ 0x17 ∷ 0x00 ∷ 0x10 ∷ 0x00 ∷ 0x00 ∷ 0x00 ∷ 0x00 ∷ [] → now leaps ≡ 2016366 ∷ []
       → (answer ≡ 0) × (left ≡ (tt, (tt, (tt, (pos 2000, tt))))))
-  -- block 3 comes to an open watch that expects it, 2,123 ms after the last tag, with the mark off
-  pub kept : Every rahmisve_watch_offer.ended rahmisve_watch_offer.Reads.Learnt (λ _ (row, (block, (tag, (leaps, _)))) answer left.
-      now row ≡ 1 ∷ 3 ∷ 1987 ∷ 234 ∷ 21 ∷ 43 ∷ 56 ∷ 789 ∷ 1 ∷ 5000 ∷ [] → block ≡ 3 → now tag ≡ 0x19 ∷ 0x87 ∷ 0x23 ∷ 0x42 ∷ 0x14 ∷ 0x35 ∷ 0x89 ∷ 0x12 ∷ [] → now leaps ≡ []
-      → (answer ≡ 0) × (left ≡ (1 ∷ 4 ∷ 1987 ∷ 234 ∷ 21 ∷ 43 ∷ 58 ∷ 912 ∷ 0 ∷ 5000 ∷ [], (tt, (tt, (tt, (3, tt)))))))
+  -- block 3 comes to an open watch that expects it, 2,123 ms after the last tag, with the mark off, and is fill as block 0 was
+  pub kept : Every rahmisve_watch_offer.ended rahmisve_watch_offer.Reads.Learnt (λ _ (row, (block, (valid, (tag, (leaps, _))))) answer left.
+      now row ≡ 1 ∷ 3 ∷ 1987 ∷ 234 ∷ 21 ∷ 43 ∷ 56 ∷ 789 ∷ 1 ∷ 5000 ∷ 1 ∷ [] → block ≡ 3 → valid ≡ 2 → now tag ≡ 0x19 ∷ 0x87 ∷ 0x23 ∷ 0x42 ∷ 0x14 ∷ 0x35 ∷ 0x89 ∷ 0x12 ∷ []
+      → now leaps ≡ []
+      → (answer ≡ 0) × (left ≡ (1 ∷ 4 ∷ 1987 ∷ 234 ∷ 21 ∷ 43 ∷ 58 ∷ 912 ∷ 0 ∷ 5000 ∷ 9 ∷ [], (tt, (tt, (tt, (tt, (3, (0, (0, tt))))))))))
+  -- block 10 completes a scan whose blocks 2 and 5 were fill, and is fill too: 4 + 32 + 1,024
+  pub complete : Every rahmisve_watch_offer.ended rahmisve_watch_offer.Reads.Learnt (λ _ (row, (block, (valid, (tag, (leaps, _))))) answer left.
+      now row ≡ 1 ∷ 10 ∷ 1987 ∷ 234 ∷ 21 ∷ 43 ∷ 56 ∷ 789 ∷ 1 ∷ 5000 ∷ 36 ∷ [] → block ≡ 10 → valid ≡ 0 → now tag ≡ 0x19 ∷ 0x87 ∷ 0x23 ∷ 0x42 ∷ 0x14 ∷ 0x35 ∷ 0x89 ∷ 0x12 ∷ []
+      → now leaps ≡ []
+      → (answer ≡ 0) × (left ≡ (0 ∷ 0 ∷ 0 ∷ 0 ∷ 0 ∷ 0 ∷ 0 ∷ 0 ∷ 0 ∷ 5000 ∷ 0 ∷ [], (tt, (tt, (tt, (tt, (7, (1060, (3, tt))))))))))
   -- row 7, in a room of five
   pub row7 : Every rahmisve_take_words.ended rahmisve_take_words.Reads.Learnt (λ _ (field, (size, (count, (room, _)))) answer left.
       now field ≡ 0x00 ∷ 0x40 ∷ 0x20 ∷ 0x0C ∷ 0x04 ∷ [] → size ≡ 10 → count ≡ 4 → now room ≡ 9 ∷ 8 ∷ 7 ∷ 6 ∷ 5 ∷ []

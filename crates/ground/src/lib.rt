@@ -41,3 +41,6 @@ pub const NO_BLOCK: u8 = 18;
 
 // A list of leap days that is too long, does not rise strictly or has a day that no year has.
 pub const BAD_LEAP_DAYS: u8 = 19;
+
+// A watch with a set of fill blocks that has the expected block or a later one, or that is not empty while idle.
+pub const BAD_FILL: u8 = 20;

@@ -57,8 +57,8 @@ waits = (
 scan : Crossing
 unfolding possible risesFrom goodList listed listedBefore digitsOf decimal valueOf tagOf goodSecond inBounds goodTag countOf timeOf elapsedOf
 scan = record {
-  completed =
-      any-offers day .whole 1000 crossing (omega arith) (is-list day list) (λ k h. is-tag day (crossing k) (each 11 (λ k. goodTag day (crossing k) ≡ true) good k (omega arith))) (λ k h.
+  completed = λ valid.
+      any-offers day .whole 1000 valid crossing (omega arith) (is-list day list) (λ k h. is-tag day (crossing k) (each 11 (λ k. goodTag day (crossing k) ≡ true) good k (omega arith))) (λ k h.
       subst (λ (a : Elapsed). (pos 0 ≤ℤ a .ms) × (a .ms ≤ℤ pos 1000)) (sym (each 10 Waits waits k h)) (leZ-yes tt, leZ-yes tt));
   true-time = rw (← quick 2016, ← quick 2017);
 }

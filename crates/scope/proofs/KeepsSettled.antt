@@ -70,10 +70,16 @@ settled =
         λ _ _ x y. (same (x .allowed) (y .allowed), refl),
         λ _ _ x y. (same (x .allowed) (y .allowed), refl),
       );
+      watch-rule = λ _ _ x y. (same (x .allowed) (y .allowed), refl);
+      watch-bounds = (
+        λ _ _ x y. (same (x .allowed) (y .allowed), refl),
+        λ _ _ x y. (same (x .allowed) (y .allowed), refl),
+        λ _ _ x y. (same (x .allowed) (y .allowed), refl),
+      );
       watch = (
         λ _ _ x y. (same (x .allowed) (y .allowed), refl),
         λ _ _ x y. (same (x .allowed) (y .allowed), refl),
-        λ _ _ x y. (same (x .allowed .1) (y .allowed .1), λ i. (same (x .allowed .0) (y .allowed .0) i, (tt, (tt, (tt, tt))))),
+        λ _ _ x y. (same (x .allowed .1) (y .allowed .1), λ i. (same (x .allowed .0) (y .allowed .0) i, (tt, (tt, (tt, (tt, tt)))))),
       );
       recording = (
         λ _ _ x y. (same (x .allowed) (y .allowed), refl),
@@ -136,7 +142,10 @@ settled =
       );
       c-watch = (
         λ _ _ x y. (same (x .allowed .0) (y .allowed .0), λ i. (tt, (same (x .allowed .1) (y .allowed .1) i, tt))),
-        λ _ _ x y. let p = x .allowed in let q = y .allowed in (same (p .0) (q .0), λ i. (same (p .1 .1) (q .1 .1) i, (tt, (tt, (tt, (same (p .1 .0) (q .1 .0) i, tt)))))),
+        λ _ _ x y. let p = x .allowed in let q = y .allowed in (
+          same (p .0) (q .0),
+          λ i. (same (p .1 .1 .1 .1) (q .1 .1 .1 .1) i, (tt, (tt, (tt, (tt, (same (p .1 .0) (q .1 .0) i, (same (p .1 .1 .0) (q .1 .1 .0) i, (same (p .1 .1 .1 .0) (q .1 .1 .1 .0) i, tt)))))))),
+        ),
       );
       c-recording = (
         λ _ _ x y. let p = x .allowed in let q = y .allowed in (same (p .0) (q .0), λ i. (tt, (tt, (same (p .1 .0) (q .1 .0) i, (same (p .1 .1 .0) (q .1 .1 .0) i, (same (p .1 .1 .1) (q .1 .1 .1) i, tt)))))),

@@ -10,6 +10,7 @@ pub mod KeepsTags
 pub mod KeepsParity
 pub mod KeepsWatch
 pub mod KeepsLeapSeconds
+pub mod KeepsFillBlocks
 pub mod KeepsTable
 pub mod KeepsDemands
 pub mod KeepsRecording

@@ -8,19 +8,19 @@ use mathlib.Core.List.{List, [], _∷_}
 use lib.IntN.{pos, _-ℤ_, _+ℤ_}
 use lib.ListN.{length, getD, replicate}
 use Rattle.bits.specs.Bits.{Below}
-use Rattle.tag.specs.Tags.{inBounds, readTag, writeTag, tagOf}
+use Rattle.tag.specs.Tags.{inBounds, readTag, writeTag}
 use Rattle.time.specs.Times.{between, elapsedOf}
 use Rattle.time.specs.Promises as Time
 use Rattle.time.specs.Table.{AcrossLeap}
 use Rattle.tag.specs.declared.Tag.{Tag}
+use Rattle.watch_bounds.specs.declared.Watch.{Watch}
 use Rattle.watch.specs.Verdicts.{numberOf, kindOf}
 use Rattle.watch.specs.Promises.{resting, OneOffer, AnyOffers}
 use Rattle.watch.specs.Offers.{verdictOf, after, offerOf, blocksBefore}
 use Rattle.watch.specs.Rules.{stepOf}
-use Rattle.watch.specs.declared.Watch.{Watch}
 use Rattle.scope.specs.Notions.{Reason, _if_, FirstOf}
 use Rattle.scope.specs.Tags.{Says, LeapYear, noTag}
-use Rattle.scope.specs.Watch.{rules}
+use Rattle.scope.specs.Watch.{Outside, rules}
 
 -- A leap day is one number, year times 1,000 and day of the year: 2016366 is 2016 day 366. It is a day of a year from 0 to 9999.
 pub record LeapDay (n : ℕ) : Type 0 where
@@ -89,11 +89,12 @@ pub record Elapsing (leaps : List ℕ) : Type 0 where
       → between leaps a b ≡ between [] a b +ℤ (pos (1000 * n) -ℤ pos (1000 * m))
   pub ordered : Time.Elapsing leaps
 
--- The watch tests the list after 16 and 13, open or idle, and its last tag by the list that is lent now.
+-- The watch tests the list after 16, 13 and 20, open or idle, and its last tag by the list that is lent now.
 abbrev pub refusals : List ℕ → Watch → ℕ → List ℕ → List Reason
 refusals leaps w b s =
     16 if (3600000 < w .limit)
     ∷ 13 if ((w .opened ≡ true) × ((w .expected < 1) ⊎ (10 < w .expected)))
+    ∷ 20 if Outside w
     ∷ 19 if (LeapDays leaps → ⊥)
     ∷ 12 if ((w .opened ≡ true) × (Bounds leaps (w .last) → ⊥))
     ∷ 4 if (11 < b)
@@ -101,12 +102,10 @@ refusals leaps w b s =
     ∷ []
 
 pub record Watching (leaps : List ℕ) : Type 0 where
-  pub number : (w : Watch) (b : ℕ) (s : List ℕ) → FirstOf (refusals leaps w b s) (numberOf (stepOf leaps w b s .verdict))
-  pub rule : (w : Watch) (b : ℕ) (s : List ℕ) (t : Tag) → Says s t → numberOf (stepOf leaps w b s .verdict) ≡ 0
-      → FirstOf (rules leaps w b t) (kindOf (stepOf leaps w b s .verdict))
+  pub number : (w : Watch) (b v : ℕ) (s : List ℕ) → FirstOf (refusals leaps w b s) (numberOf (stepOf leaps w b v s .verdict))
+  pub rule : (w : Watch) (b v : ℕ) (s : List ℕ) (t : Tag) → Says s t → numberOf (stepOf leaps w b v s .verdict) ≡ 0
+      → FirstOf (rules leaps w b t) (kindOf (stepOf leaps w b v s .verdict))
   pub left : OneOffer leaps
-  pub kept : (w : Watch) (b : ℕ) (s : List ℕ) → kindOf (stepOf leaps w b s .verdict) ≡ 3
-      → stepOf leaps w b s .next ≡ record { opened = true; expected = w .expected + 1; last = tagOf s; limit = w .limit }
   -- with one limit and one list throughout
   pub scans : AnyOffers leaps
 
@@ -128,9 +127,10 @@ crossing k =
     ∷ [])
     k []
 
--- With that day listed and a limit of 1,000 ms a watch completes such a scan, in 10,000 ms.
+-- With that day listed and a limit of 1,000 ms a watch completes such a scan, in 10,000 ms, whatever the data valid words are.
 pub record Crossing : Type 0 where
-  pub completed : kindOf (verdictOf (2016366 ∷ []) (after (2016366 ∷ []) (resting 1000) (blocksBefore 10 crossing)) (offerOf crossing 10)) ≡ 7
+  pub completed : (valid : ℕ → ℕ)
+      → kindOf (verdictOf (2016366 ∷ []) (after (2016366 ∷ []) (resting 1000) (blocksBefore 10 valid crossing)) (offerOf valid crossing 10)) ≡ 7
   pub true-time : elapsedOf (2016366 ∷ []) (crossing 0) (crossing 10) ≡ record { number = 0; ms = pos 10000 }
 
 pub record LeapSeconds : Type 0 where

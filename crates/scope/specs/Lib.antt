@@ -8,6 +8,7 @@ pub mod Tags
 pub mod Parity
 pub mod Watch
 pub mod LeapSeconds
+pub mod FillBlocks
 pub mod Table
 pub mod Demands
 pub mod Recording

@@ -42,6 +42,10 @@ use Rattle.tag.proofs.read_tag
 use Rattle.tag.proofs.write_tag
 use Rattle.time.proofs.between
 use Rattle.time.proofs.elapsed
+use Rattle.watch_rule.proofs.rule_of
+use Rattle.watch_bounds.proofs.too_long
+use Rattle.watch_bounds.proofs.lent
+use Rattle.watch_bounds.proofs.offered as tested
 use Rattle.watch.proofs.begin
 use Rattle.watch.proofs.step
 use Rattle.watch.proofs.offer
@@ -116,6 +120,8 @@ pub record AllSettled : Type 0 where
   pub tag : Settled in_bounds.ended in_bounds.Reads.Learnt × Settled zero_tag.ended zero_tag.Reads.Learnt × Settled tag_read_by.ended tag_read_by.Reads.Learnt
       × Settled read_tag.ended read_tag.Reads.Learnt × Settled write_tag.ended write_tag.Reads.Learnt
   pub time : Settled between.ended between.Reads.Learnt × Settled elapsed.ended elapsed.Reads.Learnt
+  pub watch-rule : Settled rule_of.ended rule_of.Reads.Learnt
+  pub watch-bounds : Settled too_long.ended too_long.Reads.Learnt × Settled lent.ended lent.Reads.Learnt × Settled tested.ended tested.Reads.Learnt
   pub watch : Settled begin.ended begin.Reads.Learnt × Settled step.ended step.Reads.Learnt × Settled offer.ended offered
   pub recording : Settled front_of.ended front_of.Reads.Learnt × Settled body_length.ended body_length.Reads.Learnt
       × Settled next_field.ended next_field.Reads.Learnt × Settled line_of.ended line_of.Reads.Learnt

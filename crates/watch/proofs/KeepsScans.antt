@@ -5,77 +5,40 @@ use mathlib.Core.Path.{_≡_, refl, sym, ap, _∙_, subst}
 use Prim.Native.Nat.{ℕ, zero, suc, _+_, _*_, _≤_, _<_}
 use native.Mathlib.Numerals.{add-one}
 use native.Mathlib.Omega.{arith}
-use mathlib.Core.Bool.{Bool, true, false, not, _&&_, _||_}
-use mathlib.Core.List.{List, [], _∷_, _++_, append-assoc, append-nil}
-use lib.Arith.{lt-of-le-ne}
-use lib.Dec.{eqb}
+use mathlib.Core.Bool.{Bool, true, false, not}
+use mathlib.Core.List.{List, [], _∷_, _++_}
+use lib.Dec.{eqb, ltb}
 use lib.IntN.{pos}
 use lib.Signed.{_≤ℤ_}
-use borrow.Author.Tests.{eqb-true, eq-eqb, ne-eqb, le-ltb}
+use borrow.Author.Tests.{eqb-true, le-ltb}
 use Rattle.ground.proofs.LawsChoice.{either}
-use Rattle.ground.proofs.LawsGrounds.{none-first, none-append}
-use Rattle.row.specs.Rows.{lastBlock}
+use Rattle.ground.proofs.LawsTests.{second, never}
 use Rattle.calendar.specs.Leaps.{goodList}
-use Rattle.calendar.specs.Promises.{IsList}
 use Rattle.calendar.proofs.KeepsLists.{list-is}
-use Rattle.tag.specs.Tags.{tagOf, goodTag, inBounds}
+use Rattle.tag.specs.Tags.{tagOf, goodTag}
 use Rattle.time.specs.Times.{timeOf, between, elapsedOf}
 use Rattle.tag.specs.declared.Tag.{Tag}
 use Rattle.time.specs.declared.count.Elapsed.{Elapsed}
-use Rattle.ground.proofs.LawsTests.{both, first, second, not-second, never}
-use Rattle.tag.specs.Promises.{IsTag}
-use Rattle.tag.proofs.LawsTags.{good-bounds}
-use Rattle.tag.proofs.LawsBounds.{facts}
 use Rattle.time.proofs.LawsTimes.{at-least-zero, at-most, not-back, not-late, answer, counted}
 use Rattle.tag.proofs.KeepsTags.{good}
-use Rattle.watch.specs.Verdicts.{numberOf, closingKind, kindOf}
-use Rattle.watch.specs.Bounds.{longestWait, lastOfScan, badLimit, badExpected, badLast, lent, offered, grounds, refusalOf}
-use Rattle.watch.specs.Rules.{idle, expecting}
-use Rattle.watch.specs.Offers.{Offer, nextOf, verdictOf, after, begins, noneBegins, offerOf, blocksBefore}
-use Rattle.watch.specs.Promises.{InTime, BegunBy, Scan, AnyOffers}
-use Rattle.watch.specs.declared.Watch.{Watch}
-use Rattle.watch.specs.declared.Closing.{Closing}
+use Rattle.watch_rule.specs.Rules.{lastOfScan}
+use Rattle.watch_rule.specs.Promises.{closingKind}
+use Rattle.watch_rule.specs.declared.Closing.{Closing}
+use Rattle.watch_bounds.specs.Bounds.{longestWait, badLimit, badExpected, badFill, badLast, refusalOf}
+use Rattle.watch_bounds.specs.Promises.{Sound}
+use Rattle.watch_bounds.specs.declared.Watch.{Watch}
+use Rattle.watch_bounds.proofs.LawsBounds.{accepted-for, from-one}
+use Rattle.watch_bounds.proofs.KeepsNumbers.{sound-for}
+use Rattle.watch.specs.Verdicts.{numberOf, kindOf}
+use Rattle.watch.specs.Rules.{idle, opening, keeping, stepOf}
+use Rattle.watch.specs.Offers.{Offer, verdictOf, after, begins, offerOf, blocksBefore}
+use Rattle.watch.specs.Promises.{Waits, InTime, BegunBy, Scan, AnyOffers}
 use Rattle.watch.specs.declared.Stepped.{Stepped}
-use Rattle.watch.proofs.LawsRules.{accepted-for, from-one, to-ten}
 use Rattle.watch.proofs.LawsTurn.{Timely, Turn, refuses, strays, opens, closes, keeps, Why, back, late, broken, complete, turn}
-use Rattle.watch.proofs.KeepsRules.{by-refusal, accepted-offer}
+use Rattle.watch.proofs.LawsOffers.{after-one, goes-on, starts, is-first, not-first, not-taken, every, Bound, bound-after, none-holds}
+use Rattle.watch.proofs.KeepsRules.{by-refusal, one-offer, accepted-offer}
 
 module _ (leaps : List ℕ) where
-  -- ---- a list of offers and one more
-
-  after-more : (w : Watch) (xs ys : List Offer) → after leaps w (xs ++ ys) ≡ after leaps (after leaps w xs) ys
-  unfolding after
-  after-more w [] ys = refl
-  after-more w (x ∷ xs) ys = after-more (nextOf leaps w x) xs ys
-
-  after-one : (w : Watch) (os : List Offer) (o : Offer) → after leaps w (os ++ (o ∷ [])) ≡ nextOf leaps (after leaps w os) o
-  unfolding after
-  after-one w os o = after-more w os (o ∷ [])
-
-  none-one : (w : Watch) (os : List Offer) (o : Offer) → noneBegins leaps w os ≡ true → begins leaps (after leaps w os) o ≡ false → noneBegins leaps w (os ++ (o ∷ [])) ≡ true
-  unfolding after noneBegins
-  none-one w [] o h n = ap (λ (b : Bool). not b && true) n
-  none-one w (x ∷ os) o h n = both (first (not (begins leaps w x)) _ h) (none-one (nextOf leaps w x) os o (second (not (begins leaps w x)) _ h) n)
-
-  -- The scan goes on, or begins with the offer.
-  module _ (w : Watch) (os : List Offer) (o : Offer) where
-    goes-on : BegunBy leaps w os → begins leaps (after leaps w os) o ≡ false → BegunBy leaps w (os ++ (o ∷ []))
-    unfolding after
-    goes-on B n =
-        let e : after leaps w os ≡ after leaps (nextOf leaps (after leaps w (B .earlier)) (B .first)) (B .since) = ap (after leaps w) (B .parts) ∙ after-more w (B .earlier) (B .first ∷ B .since) in
-        record {
-          earlier = B .earlier;
-          first = B .first;
-          since = B .since ++ (o ∷ []);
-          parts = ap (λ (l : List Offer). l ++ (o ∷ [])) (B .parts) ∙ append-assoc (B .earlier) (B .first ∷ B .since) (o ∷ []);
-          begun = B .begun;
-          none-since = none-one (nextOf leaps (after leaps w (B .earlier)) (B .first)) (B .since) o (B .none-since) (ap (λ (v : Watch). begins leaps v o) (sym e) ∙ n);
-        }
-
-    starts : begins leaps (after leaps w os) o ≡ true → BegunBy leaps w (os ++ (o ∷ []))
-    unfolding noneBegins
-    starts h = record { earlier = os; first = o; since = []; parts = refl; begun = h; none-since = refl }
-
   -- ---- the invariant
 
   -- Of an open watch: its block 0, and how far its last tag is from it.
@@ -100,7 +63,7 @@ module _ (leaps : List ℕ) where
       let v = after leaps w (B .earlier) in
       let o = B .first in
       accepted-for leaps v (o .block) (o .tag)
-      (sym (by-refusal leaps v (o .block) (o .tag)) ∙ eqb-true (numberOf (verdictOf leaps v o)) 0 (second (eqb (o .block) 0) _ (B .begun))) .tag
+      (sym (by-refusal leaps v (o .block) (o .valid) (o .tag)) ∙ eqb-true (numberOf (verdictOf leaps v o)) 0 (second (eqb (o .block) 0) _ (B .begun))) .tag
 
   module _ (l : ℕ) (os : List Offer) (o : Offer) where
     abbrev w : Watch
@@ -115,37 +78,25 @@ module _ (leaps : List ℕ) where
     abbrev longer : List Offer
     longer = os ++ (o ∷ [])
 
-    number : numberOf (verdictOf leaps w o) ≡ refusalOf leaps w b (o .tag)
-    number = by-refusal leaps w b (o .tag)
-
-    is-first : b ≡ 0 → refusalOf leaps w b (o .tag) ≡ 0 → begins leaps w o ≡ true
-    is-first z e = both (eq-eqb b 0 z) (eq-eqb (numberOf (verdictOf leaps w o)) 0 (number ∙ e))
-
-    not-first : (b ≡ 0 → ⊥) → begins leaps w o ≡ false
-    not-first n = ap (λ (z : Bool). z && eqb (numberOf (verdictOf leaps w o)) 0) (ne-eqb b 0 n)
-
-    not-taken : (refusalOf leaps w b (o .tag) ≡ 0 → ⊥) → begins leaps w o ≡ false
-    not-taken n = not-second (eqb b 0) (ne-eqb (numberOf (verdictOf leaps w o)) 0 (λ e. n (sym number ∙ e)))
-
     module _ (I : Inv l os w) where
-      opened : b ≡ 0 → refusalOf leaps w b (o .tag) ≡ 0 → Inv l longer (expecting 1 t (w .limit))
+      opened : b ≡ 0 → refusalOf leaps w b (o .tag) ≡ 0 → Inv l longer (opening (o .valid) t (w .limit))
       unfolding starts
       opened z e = record {
         limit = I .limit;
-        since = λ h. record { by = starts (idle l) os o (is-first z e); low = omega arith; high = omega arith };
+        since = λ h. record { by = starts leaps (idle l) os o (is-first leaps w o z e); low = omega arith; high = omega arith };
       }
 
       rests : Inv l longer (idle (w .limit))
       rests = record { limit = I .limit; since = λ h. never h }
 
-      kept : w .opened ≡ true → Timely leaps w t → begins leaps w o ≡ false → Inv l longer (expecting (w .expected + 1) t (w .limit))
+      kept : w .opened ≡ true → Timely leaps w t → begins leaps w o ≡ false → Inv l longer (keeping w (o .valid) t .next)
       unfolding goes-on
       kept h m n =
           let S : Since l os w = I .since h in
           record {
             limit = I .limit;
             since = λ h. record {
-              by = goes-on (idle l) os o (S .by) n;
+              by = goes-on leaps (idle l) os o (S .by) n;
               low = omega (arith, S .low, not-back leaps (w .last) t (m .forward));
               high = one-more (timeOf leaps (tagOf (S .by .first .tag))) (timeOf leaps (w .last)) (timeOf leaps t) l (w .limit) (w .expected) (not-late leaps (w .last) t (w .limit) (m .forward) (m .soon)) (I .limit) (S .high);
             };
@@ -155,18 +106,15 @@ module _ (leaps : List ℕ) where
       unfolding goes-on
       same n = record {
         limit = I .limit;
-        since = λ h. record { by = goes-on (idle l) os o (I .since h .by) n; low = I .since h .low; high = I .since h .high };
+        since = λ h. record { by = goes-on leaps (idle l) os o (I .since h .by) n; low = I .since h .low; high = I .since h .high };
       }
 
-      turned : {r : Stepped} → Turn leaps w b (o .tag) r → Inv l longer (r .next)
-      turned (refuses h) = same (not-taken h)
-      turned (strays e i n) = same (not-first n)
+      turned : {r : Stepped} → Turn leaps w b (o .valid) (o .tag) r → Inv l longer (r .next)
+      turned (refuses h) = same (not-taken leaps w o h)
+      turned (strays e i n) = same (not-first leaps w o n)
       turned (opens e z) = opened z e
       turned (closes e i y) = either (Inv l longer) (eqb b 0) (λ z. opened (eqb-true b 0 z) e) (λ z. rests)
-      turned (keeps e i m q n) = kept i m (not-first (λ z. omega (arith, from-one w (accepted-for leaps w b (o .tag) e .expected) i)))
-
-      one-on : Inv l longer (after leaps (idle l) longer)
-      one-on = subst (Inv l longer) (sym (after-one (idle l) os o)) (turned (turn leaps w b (o .tag)))
+      turned (keeps e i m q n) = kept i m (not-first leaps w o (λ z. omega (arith, from-one w (accepted-for leaps w b (o .tag) e .expected) i)))
 
       -- What completing says.
       ends : refusalOf leaps w b (o .tag) ≡ 0 → w .opened ≡ true → Timely leaps w t → b ≡ w .expected → b ≡ lastOfScan → Scan leaps l os o
@@ -191,107 +139,90 @@ module _ (leaps : List ℕ) where
       why-complete e i broken h = absurd (omega arith)
       why-complete e i (complete m q n) h = ends e i m q n
 
-      scan : {r : Stepped} → Turn leaps w b (o .tag) r → kindOf (r .verdict) ≡ 7 → Scan leaps l os o
+      scan : {r : Stepped} → Turn leaps w b (o .valid) (o .tag) r → kindOf (r .verdict) ≡ 7 → Scan leaps l os o
       scan (refuses n) h = absurd (omega arith)
       scan (strays e i n) h = absurd (omega arith)
       scan (opens e z) h = absurd (omega arith)
       scan (closes e i y) h = why-complete e i y h
       scan (keeps e i m q n) h = absurd (omega arith)
 
-  holds : (l : ℕ) (xs os : List Offer) → Inv l xs (after leaps (idle l) xs) → Inv l (xs ++ os) (after leaps (idle l) (xs ++ os))
-  holds l xs [] I = subst (λ (zs : List Offer). Inv l zs (after leaps (idle l) zs)) (sym (append-nil xs)) I
-  holds l xs (o ∷ os) I = subst (λ (zs : List Offer). Inv l zs (after leaps (idle l) zs)) (append-assoc xs (o ∷ []) os) (holds l (xs ++ (o ∷ [])) os (one-on l xs o I))
-
   always : (l : ℕ) (os : List Offer) → Inv l os (after leaps (idle l) os)
-  unfolding after
-  always l os = holds l [] os (record { limit = refl; since = λ h. never h })
-
-  -- ---- a record that stays within its bounds
-
-  record Bound (w : Watch) : Type 0 where
-    limit : badLimit w ≡ false
-    expected : badExpected w ≡ false
-    list : goodList leaps ≡ true
-    last : badLast leaps w ≡ false
-
-  module _ (w : Watch) (b : ℕ) (s : List ℕ) (B : Bound w) where
-    good-last : refusalOf leaps w b s ≡ 0 → not (inBounds leaps (tagOf s)) ≡ false
-    good-last e = ap not (good-bounds leaps s (accepted-for leaps w b s e .tag))
-
-    stays-bound : {r : Stepped} → Turn leaps w b s r → Bound (r .next)
-    stays-bound (refuses n) = B
-    stays-bound (strays e i n) = B
-    stays-bound (opens e z) = record { limit = B .limit; expected = refl; list = B .list; last = good-last e }
-    stays-bound (closes e i y) =
-        either Bound (eqb b 0) (λ z. record { limit = B .limit; expected = refl; list = B .list; last = good-last e }) (λ z. record { limit = B .limit; expected = refl; list = B .list; last = refl })
-    stays-bound (keeps e i m q n) =
-        let p : w .expected < lastOfScan = lt-of-le-ne (to-ten w (B .expected) i) (λ z. n (q ∙ z)) in
-        record {
-          limit = B .limit;
-          expected = λ j. le-ltb (w .expected + 1) 1 (omega arith) j || le-ltb lastOfScan (w .expected + 1) (omega arith) j;
-          list = B .list;
-          last = good-last e;
-        }
-
-  bound-after : (os : List Offer) (w : Watch) → Bound w → Bound (after leaps w os)
-  unfolding after
-  bound-after [] w B = B
-  bound-after (o ∷ os) w B = bound-after os (nextOf leaps w o) (stays-bound w (o .block) (o .tag) B (turn leaps w (o .block) (o .tag)))
-
-  none-holds : (w : Watch) (b : ℕ) (s : List ℕ) → Bound w → b ≤ lastBlock → goodTag leaps s ≡ true → refusalOf leaps w b s ≡ 0
-  unfolding refusalOf
-  none-holds w b s B k g =
-      none-first (grounds leaps w b (goodTag leaps s)) (none-append (lent leaps w) (offered b (goodTag leaps s)) (B .limit, (B .expected, (ap not (B .list), (B .last, tt)))) (le-ltb lastBlock b k, (ap not g, tt)))
+  always l =
+      every leaps l (Inv l) (λ os o I. turned l os o I (turn leaps (after leaps (idle l) os) (o .block) (o .valid) (o .tag))) (record { limit = refl; since = λ h. never h })
 
   -- ---- a whole scan
 
-  taken-number : (l : ℕ) (os : List Offer) (o : Offer) → l ≤ longestWait → goodList leaps ≡ true → o .block ≤ lastBlock → goodTag leaps (o .tag) ≡ true → refusalOf leaps (after leaps (idle l) os) (o .block) (o .tag) ≡ 0
-  taken-number l os o k list b g =
-      none-holds (after leaps (idle l) os) (o .block) (o .tag) (bound-after os (idle l) (record { limit = le-ltb longestWait l k; expected = refl; list = list; last = refl })) b g
+  module _ (l : ℕ) (k : l ≤ longestWait) (list : goodList leaps ≡ true) where
+    taken-number : (os : List Offer) (o : Offer) → o .block ≤ 11 → goodTag leaps (o .tag) ≡ true → refusalOf leaps (after leaps (idle l) os) (o .block) (o .tag) ≡ 0
+    taken-number os o b g =
+        let w = after leaps (idle l) os in
+        none-holds leaps w (o .block) (o .tag) (ap (ltb longestWait) (always l os .limit) ∙ le-ltb longestWait l k) list (bound-after leaps l os) b g
 
-  module _ (l : ℕ) (tag : ℕ → List ℕ) (k : l ≤ longestWait) (list : IsList leaps) (tagged : (k : ℕ) → k ≤ 10 → IsTag leaps (tag k))
-      (wait : (k : ℕ) → k < 10 → (pos 0 ≤ℤ between leaps (tagOf (tag k)) (tagOf (tag (suc k)))) × (between leaps (tagOf (tag k)) (tagOf (tag (suc k))) ≤ℤ pos l)) where
-    -- the watch once blocks 0 to n were offered
-    abbrev standing : ℕ → Watch
-    standing n = expecting (suc n) (tagOf (tag n)) l
+    module _ (valid : ℕ → ℕ) (tag : ℕ → List ℕ) (tagged : (k : ℕ) → k ≤ 10 → goodTag leaps (tag k) ≡ true)
+        (wait : (k : ℕ) → k < 10 → (pos 0 ≤ℤ between leaps (tagOf (tag k)) (tagOf (tag (suc k)))) × (between leaps (tagOf (tag k)) (tagOf (tag (suc k))) ≤ℤ pos l)) where
+      -- the watch before block n is offered
+      abbrev before : ℕ → Watch
+      before n = after leaps (idle l) (blocksBefore n valid tag)
 
-    -- the next offer is in time
-    timely : (n : ℕ) → n < 10 → InTime leaps (standing n) (suc n) (tag (suc n))
-    timely n h = record {
-      taken = record {
-        opened = refl;
-        sound = record {
-          watch = record { limit = k; expected = λ o. (omega arith, omega arith); list = list; last = λ o. facts leaps (tagOf (tag n)) (good-bounds leaps (tag n) (good leaps (tag n) (tagged n (omega arith)))) };
-          block = omega arith;
-          tag = tagged (suc n) (omega arith);
-        };
-      };
-      forward = wait n h .0;
-      soon = wait n h .1;
-    }
+      sound : (n : ℕ) → n ≤ 10 → Sound leaps (before n) n (tag n)
+      sound n h = sound-for leaps (before n) n (tag n) (taken-number (blocksBefore n valid tag) (offerOf valid tag n) (omega arith) (tagged n h))
 
-    stands : (n : ℕ) → n < 10 → after leaps (idle l) (blocksBefore (suc n) tag) ≡ standing n
-    unfolding blocksBefore after
-    stands zero h =
-        accepted-offer leaps .opens (idle l) 0 (tag 0) (record {
-          idle = refl;
-          sound = record { watch = record { limit = k; expected = λ o. never o; list = list; last = λ o. never o }; block = omega arith; tag = tagged 0 (omega arith) };
-        }) refl .1
-    stands (suc n) h =
-        after-one (idle l) (blocksBefore (suc n) tag) (offerOf tag (suc n)) ∙ ap (λ (v : Watch). nextOf leaps v (offerOf tag (suc n))) (stands n (omega arith))
-        ∙ accepted-offer leaps .kept (standing n) (suc n) (tag (suc n)) (timely n (omega arith)) refl (λ q. omega arith) .1
-        ∙ ap (λ (m : ℕ). expecting m (tagOf (tag (suc n))) l) (add-one (suc n))
+      -- the next offer is in time
+      timely : (n : ℕ) → n < 10 → Waits (before (suc n)) (suc n) (tagOf (tag n)) l → InTime leaps (before (suc n)) (suc n) (tag (suc n))
+      timely n h W = record {
+        taken = record { opened = W .opened; sound = sound (suc n) h };
+        forward = subst (λ (t : Tag). pos 0 ≤ℤ between leaps t (tagOf (tag (suc n)))) (sym (W .last)) (wait n h .0);
+        soon = subst (λ (t : Tag). between leaps t (tagOf (tag (suc n))) ≤ℤ pos (before (suc n) .limit)) (sym (W .last)) (subst (λ (m : ℕ). between leaps (tagOf (tag n)) (tagOf (tag (suc n))) ≤ℤ pos m) (sym (W .limit)) (wait n h .1));
+      }
 
-    ended : kindOf (verdictOf leaps (after leaps (idle l) (blocksBefore 10 tag)) (offerOf tag 10)) ≡ 7
-    ended =
-        ap (λ (v : Watch). kindOf (verdictOf leaps v (offerOf tag 10))) (stands 9 (omega arith))
-        ∙ accepted-offer leaps .complete (standing 9) 10 (tag 10) (timely 9 (omega arith)) refl refl
+      -- one block more
+      next-is : (n : ℕ) → before (suc n) ≡ stepOf leaps (before n) n (valid n) (tag n) .next
+      unfolding blocksBefore
+      next-is n = after-one leaps (idle l) (blocksBefore n valid tag) (offerOf valid tag n)
+
+      waits-at : {u w : Watch} {b : ℕ} {t : Tag} → u ≡ w → Waits w b t l → Waits u b t l
+      waits-at {u} {w} {b} {t} e W = subst (λ (x : Watch). Waits x b t l) (sym e) W
+
+      stands : (n : ℕ) → n < 10 → Waits (before (suc n)) (suc n) (tagOf (tag n)) l
+      unfolding after blocksBefore
+      stands zero h =
+          waits-at (next-is 0) (one-offer leaps .opening (idle l) 0 (valid 0) (tag 0) (accepted-offer leaps .opens (idle l) 0 (valid 0) (tag 0) (record { idle = refl; sound = sound 0 (omega arith) }) refl))
+      stands (suc n) h =
+          let W = stands n (omega arith) in
+          let w = before (suc n) in
+          let K = one-offer leaps .going-on w (suc n) (valid (suc n)) (tag (suc n)) (accepted-offer leaps .kept w (suc n) (valid (suc n)) (tag (suc n)) (timely n (omega arith) W) (sym (W .expected)) (λ q. omega arith)) in
+          waits-at (next-is (suc n)) (record { opened = K .opened; expected = K .expected ∙ add-one (w .expected) ∙ ap suc (W .expected); last = K .last; limit = K .limit ∙ W .limit })
+
+      ended : kindOf (verdictOf leaps (before 10) (offerOf valid tag 10)) ≡ 7
+      ended =
+          let W = stands 9 (omega arith) in
+          accepted-offer leaps .complete (before 10) 10 (valid 10) (tag 10) (timely 9 (omega arith) W) (sym (W .expected)) refl
+
+  -- ---- never refused for itself
+
+  -- Neither 13 nor 20 is among the numbers that are left.
+  abbrev Others : ℕ → Type 0
+  Others n = (n ≡ 13 → ⊥) × (n ≡ 20 → ⊥)
+
+  others : (w : Watch) (b : ℕ) (s : List ℕ) → Bound leaps w → Others (refusalOf leaps w b s)
+  unfolding refusalOf
+  others w b s B =
+      either Others (badLimit w) (λ _. (λ e. omega arith, λ e. omega arith)) (λ _.
+      either Others (badExpected w) (λ e. never (sym (B .expected) ∙ e)) (λ _.
+      either Others (badFill w) (λ e. never (sym (B .fill) ∙ e)) (λ _.
+      either Others (not (goodList leaps)) (λ _. (λ e. omega arith, λ e. omega arith)) (λ _.
+      either Others (badLast leaps w) (λ _. (λ e. omega arith, λ e. omega arith)) (λ _.
+      either Others (ltb 11 b) (λ _. (λ e. omega arith, λ e. omega arith)) (λ _.
+      either Others (not (goodTag leaps s)) (λ _. (λ e. omega arith, λ e. omega arith)) (λ _. (λ e. omega arith, λ e. omega arith))))))))
 
   pub any-offers : AnyOffers leaps
   any-offers = record {
-    completed = λ l os o h. scan l os o (always l os) (turn leaps (after leaps (idle l) os) (o .block) (o .tag)) h;
-    never-refused = λ l os o k list b t. by-refusal leaps (after leaps (idle l) os) (o .block) (o .tag) ∙ taken-number l os o k (list-is leaps list) b (good leaps (o .tag) t);
-    whole = λ l tag k list t w. ended l tag k list t (λ n h.
+    completed = λ l os o h. scan l os o (always l os) (turn leaps (after leaps (idle l) os) (o .block) (o .valid) (o .tag)) h;
+    never-refused = λ l os o k list b t. by-refusal leaps (after leaps (idle l) os) (o .block) (o .valid) (o .tag) ∙ taken-number l k (list-is leaps list) os o b (good leaps (o .tag) t);
+    whole = λ l valid tag k list t w. ended l k (list-is leaps list) valid tag (λ n h. good leaps (tag n) (t n h)) (λ n h.
         let e = counted leaps (tag n) (tag (suc n)) (list-is leaps list) (good leaps (tag n) (t n (omega arith))) (good leaps (tag (suc n)) (t (suc n) (omega arith))) in
         subst (λ (a : Elapsed). (pos 0 ≤ℤ a .ms) × (a .ms ≤ℤ pos l)) e (w n h));
+    never-itself = λ l os o.
+        let w = after leaps (idle l) os in
+        subst Others (sym (by-refusal leaps w (o .block) (o .valid) (o .tag))) (others w (o .block) (o .tag) (bound-after leaps l os));
   }

@@ -1,7 +1,7 @@
 -- One offer, by what it did: each case with the facts that led to it.
 -- Assumes nothing.
 use mathlib.Core.Path.{_≡_}
-use Prim.Native.Nat.{ℕ, _+_}
+use Prim.Native.Nat.{ℕ}
 use mathlib.Core.Bool.{true, false, not}
 use mathlib.Core.List.{List}
 use lib.Dec.{eqb}
@@ -12,14 +12,16 @@ use Rattle.ground.proofs.LawsChoice.{either}
 use Rattle.tag.specs.Tags.{tagOf}
 use Rattle.time.specs.Times.{between}
 use Rattle.tag.specs.declared.Tag.{Tag}
-use Rattle.watch.specs.Bounds.{lastOfScan, refusalOf}
-use Rattle.watch.specs.Rules.{expecting, closing, onIdle, inTime, onOpen, onGood, stepOf}
-use Rattle.watch.specs.declared.Watch.{Watch}
-use Rattle.watch.specs.declared.Closing.{Closing}
-use Rattle.watch.specs.declared.Closing.the-variants.{ClockBack, Late, Broken, Complete}
-use Rattle.watch.specs.declared.Verdict.the-variants.{Refused, Stray, Opened, Kept}
+use Rattle.watch_rule.specs.Rules.{lastOfScan, inTime, ruleOf}
+use Rattle.watch_rule.specs.declared.Closing.{Closing}
+use Rattle.watch_rule.specs.declared.Closing.the-variants.{ClockBack, Late, Broken, Complete}
+use Rattle.watch_rule.specs.declared.Rule.{Rule}
+use Rattle.watch_bounds.specs.Bounds.{refusalOf}
+use Rattle.watch_bounds.specs.declared.Watch.{Watch}
+use Rattle.watch.specs.Rules.{opening, closing, keeping, following, onIdle, onOpen, onGood, stepOf}
+use Rattle.watch.specs.declared.Verdict.the-variants.{Refused, Stray, Opened}
 use Rattle.watch.specs.declared.Stepped.{Stepped}
-use Rattle.watch.proofs.LawsRules.{stepped}
+use Rattle.watch.proofs.LawsSteps.{stepped}
 
 -- Neither back nor late.
 pub record Timely (leaps : List ℕ) (w : Watch) (t : Tag) : Type 0 where
@@ -33,40 +35,43 @@ pub data Why (leaps : List ℕ) (w : Watch) (b : ℕ) (t : Tag) : Closing → Ty
   broken : Why leaps w b t Broken
   complete : Timely leaps w t → b ≡ w .expected → b ≡ lastOfScan → Why leaps w b t Complete
 
-pub data Turn (leaps : List ℕ) (w : Watch) (b : ℕ) (s : List ℕ) : Stepped → Type 0 where
-  refuses : (refusalOf leaps w b s ≡ 0 → ⊥) → Turn leaps w b s (stepped w (Refused (refusalOf leaps w b s)))
-  strays : refusalOf leaps w b s ≡ 0 → w .opened ≡ false → (b ≡ 0 → ⊥) → Turn leaps w b s (stepped w Stray)
-  opens : refusalOf leaps w b s ≡ 0 → b ≡ 0 → Turn leaps w b s (stepped (expecting 1 (tagOf s) (w .limit)) Opened)
-  closes : refusalOf leaps w b s ≡ 0 → w .opened ≡ true → {why : Closing} → Why leaps w b (tagOf s) why → Turn leaps w b s (closing w b (tagOf s) why)
-  keeps : refusalOf leaps w b s ≡ 0 → w .opened ≡ true → Timely leaps w (tagOf s) → b ≡ w .expected → (b ≡ lastOfScan → ⊥)
-      → Turn leaps w b s (stepped (expecting (w .expected + 1) (tagOf s) (w .limit)) Kept)
+pub data Turn (leaps : List ℕ) (w : Watch) (b v : ℕ) (s : List ℕ) : Stepped → Type 0 where
+  refuses : (refusalOf leaps w b s ≡ 0 → ⊥) → Turn leaps w b v s (stepped w (Refused (refusalOf leaps w b s)))
+  strays : refusalOf leaps w b s ≡ 0 → w .opened ≡ false → (b ≡ 0 → ⊥) → Turn leaps w b v s (stepped w Stray)
+  opens : refusalOf leaps w b s ≡ 0 → b ≡ 0 → Turn leaps w b v s (stepped (opening v (tagOf s) (w .limit)) Opened)
+  closes : refusalOf leaps w b s ≡ 0 → w .opened ≡ true → {why : Closing} → Why leaps w b (tagOf s) why → Turn leaps w b v s (closing w b v (tagOf s) why)
+  keeps : refusalOf leaps w b s ≡ 0 → w .opened ≡ true → Timely leaps w (tagOf s) → b ≡ w .expected → (b ≡ lastOfScan → ⊥) → Turn leaps w b v s (keeping w v (tagOf s))
 
-module _ (leaps : List ℕ) (w : Watch) (b : ℕ) (s : List ℕ) where
+module _ (leaps : List ℕ) (w : Watch) (b v : ℕ) (s : List ℕ) where
   abbrev t : Tag
   t = tagOf s
 
   abbrev d : ℤ
   d = between leaps (w .last) t
 
+  -- what the watch does by a rule
+  abbrev Followed : Rule → Type 0
+  Followed rule = Turn leaps w b v s (following w b v t rule)
+
   module _ (taken : refusalOf leaps w b s ≡ 0) where
-    when-open : w .opened ≡ true → Turn leaps w b s (onOpen w b t d)
-    unfolding onOpen inTime
+    when-open : w .opened ≡ true → Turn leaps w b v s (onOpen w b v t d)
+    unfolding ruleOf inTime
     when-open o =
-        either (Turn leaps w b s) (ltZ d (pos 0)) (λ e. closes taken o (back e)) (λ forward.
-        either (Turn leaps w b s) (ltZ (pos (w .limit)) d) (λ e. closes taken o (late e)) (λ soon.
-        either (Turn leaps w b s) (not (eqb b (w .expected))) (λ e. closes taken o broken) (λ e.
+        either Followed (ltZ d (pos 0)) (λ e. closes taken o (back e)) (λ forward.
+        either Followed (ltZ (pos (w .limit)) d) (λ e. closes taken o (late e)) (λ soon.
+        either Followed (not (eqb b (w .expected))) (λ e. closes taken o broken) (λ e.
         let timely : Timely leaps w t = record { forward = forward; soon = soon } in
         let same : b ≡ w .expected = eqb-true b (w .expected) (not-false (eqb b (w .expected)) e) in
-        either (Turn leaps w b s) (eqb b lastOfScan) (λ e. closes taken o (complete timely same (eqb-true b lastOfScan e))) (λ e. keeps taken o timely same (eqb-false b lastOfScan e)))))
+        either Followed (eqb b lastOfScan) (λ e. closes taken o (complete timely same (eqb-true b lastOfScan e))) (λ e. keeps taken o timely same (eqb-false b lastOfScan e)))))
 
-    when-idle : w .opened ≡ false → Turn leaps w b s (onIdle w b t)
+    when-idle : w .opened ≡ false → Turn leaps w b v s (onIdle w b v t)
     unfolding onIdle
-    when-idle o = either (Turn leaps w b s) (eqb b 0) (λ e. opens taken (eqb-true b 0 e)) (λ e. strays taken o (eqb-false b 0 e))
+    when-idle o = either (Turn leaps w b v s) (eqb b 0) (λ e. opens taken (eqb-true b 0 e)) (λ e. strays taken o (eqb-false b 0 e))
 
-    when-good : Turn leaps w b s (onGood leaps w b t)
+    when-good : Turn leaps w b v s (onGood leaps w b v t)
     unfolding onGood
-    when-good = either (Turn leaps w b s) (w .opened) when-open when-idle
+    when-good = either (Turn leaps w b v s) (w .opened) when-open when-idle
 
-  pub turn : Turn leaps w b s (stepOf leaps w b s)
+  pub turn : Turn leaps w b v s (stepOf leaps w b v s)
   unfolding stepOf
-  turn = either (Turn leaps w b s) (eqb (refusalOf leaps w b s) 0) (λ e. when-good (eqb-true (refusalOf leaps w b s) 0 e)) (λ e. refuses (eqb-false (refusalOf leaps w b s) 0 e))
+  turn = either (Turn leaps w b v s) (eqb (refusalOf leaps w b s) 0) (λ e. when-good (eqb-true (refusalOf leaps w b s) 0 e)) (λ e. refuses (eqb-false (refusalOf leaps w b s) 0 e))

@@ -1,4 +1,9 @@
-pub mod LawsRules
+pub mod LawsSteps
 pub mod LawsTurn
+pub mod LawsFills
+pub mod LawsOffers
+pub mod LawsLists
 pub mod KeepsRules
 pub mod KeepsScans
+pub mod KeepsFilled
+pub mod KeepsHanded

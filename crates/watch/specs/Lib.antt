@@ -1,5 +1,6 @@
 pub mod Verdicts
-pub mod Bounds
+pub mod Fills
 pub mod Rules
 pub mod Offers
 pub mod Promises
+pub mod Filled

@@ -1,8 +1,7 @@
--- What the cases of a verdict mean: the number given, and what the offer did, as a number too.
+-- What the cases of a verdict mean: the number given, what the offer did, as a number too, and which blocks were fill.
 -- Assumes nothing.
 use Prim.Native.Nat.{ℕ}
-use Rattle.watch.specs.declared.Closing.{Closing}
-use Rattle.watch.specs.declared.Closing.the-variants.{ClockBack, Late, Broken, Complete}
+use Rattle.watch_rule.specs.Promises.{closingKind}
 use Rattle.watch.specs.declared.Verdict.{Verdict}
 use Rattle.watch.specs.declared.Verdict.the-variants.{Refused, Stray, Opened, Kept, Closed}
 
@@ -12,14 +11,7 @@ numberOf (Refused n) = n
 numberOf Stray = 0
 numberOf Opened = 0
 numberOf Kept = 0
-numberOf (Closed why) = 0
-
--- How a scan was closed: 4 as clock back, 5 as late, 6 as broken, 7 as complete.
-abbrev pub closingKind : Closing → ℕ
-closingKind ClockBack = 4
-closingKind Late = 5
-closingKind Broken = 6
-closingKind Complete = 7
+numberOf (Closed why fill count) = 0
 
 -- What the offer did: 0 nothing, for it was refused; 1 nothing, for it was a stray; 2 it opened a scan; 3 it was kept; from 4 on it closed a
 -- scan.
@@ -28,4 +20,19 @@ kindOf (Refused n) = 0
 kindOf Stray = 1
 kindOf Opened = 2
 kindOf Kept = 3
-kindOf (Closed why) = closingKind why
+kindOf (Closed why fill count) = closingKind why
+
+-- The set of the scan's fill blocks and how many they are, which a closing hands over; 0 where nothing was closed.
+abbrev pub fillOf : Verdict → ℕ
+fillOf (Refused n) = 0
+fillOf Stray = 0
+fillOf Opened = 0
+fillOf Kept = 0
+fillOf (Closed why fill count) = fill
+
+abbrev pub countOf : Verdict → ℕ
+countOf (Refused n) = 0
+countOf Stray = 0
+countOf Opened = 0
+countOf Kept = 0
+countOf (Closed why fill count) = count

@@ -1,37 +1,24 @@
 // The watch that follows blocks 0 to 10 of a scan: how it begins, one offer to it by value, and the thin function over a watch that the
-// host lends. With each offer comes the list of leap days. The rules stand in specs/Rules.antt, what is promised of any sequence of offers in
-// specs/Promises.antt.
+// host lends. With each offer come the block's data valid word and the list of leap days. What an offer does stands in specs/Rules.antt, what
+// is promised of any sequence of offers in specs/Promises.antt, and of the blocks that were fill in specs/Filled.antt.
 ghost use mathlib.Core.Path.{_≡_};
+ghost use lib.Dec.{eqb};
 ghost use Rattle.watch.specs.Rules.{beginOf, stepOf};
 ghost use Rattle.watch.specs.declared.Verdict.the-variants.{Refused};
-use tag::Tag;
+use watch_bounds::Watch;
+use watch_rule::Closing;
 
-mod bounds; // what an offer is refused for
+mod fill; // which blocks were fill
 mod rules; // what an accepted offer does
 
-// Idle or open. Open, it has the block that it expects next, 1 to 10, and the last tag. What an idle one holds of these is not read.
-pub struct Watch {
-    pub opened: bool,
-    pub expected: u8,
-    pub last: Tag,
-    pub limit: u32,
-}
-
-// How a scan closes.
-pub enum Closing {
-    ClockBack,
-    Late,
-    Broken,
-    Complete,
-}
-
-// What an offer did; specs/Verdicts.antt has the number of each case.
+// What an offer did; specs/Verdicts.antt has the number of each case. A closing hands over the set of the scan's fill blocks and how many
+// they are.
 pub enum Verdict {
     Refused(u8),
     Stray,
     Opened,
     Kept,
-    Closed(Closing),
+    Closed { why: Closing, fill: u32, count: u32 },
 }
 
 pub struct Stepped {
@@ -49,7 +36,7 @@ pub struct Begun {
 pub fn begin(limit: u32) -> Begun
     ensures { λ r. ⌜ r ≡ beginOf limit ⌝ }
 {
-    if bounds::too_long(limit) {
+    if watch_bounds::too_long(limit) {
         let watch = rules::idle(0);
         Begun {
             number: ground::LONG_LIMIT,
@@ -64,6 +51,12 @@ pub fn begin(limit: u32) -> Begun
     }
 }
 
+fn is(a: u8, b: u8) -> bool
+    ensures { λ r. ⌜ r ≡ eqb a b ⌝ }
+{
+    a == b
+}
+
 fn refused(w: Watch, number: u8) -> Stepped
     ensures { λ r. ⌜ r ≡ record { next = w; verdict = Refused number } ⌝ }
 {
@@ -73,29 +66,30 @@ fn refused(w: Watch, number: u8) -> Stepped
     }
 }
 
-// One offer, by value: a block number and its tag's bytes, with the list of leap days. The list is tested once, before the tag is read.
-pub fn step(w: Watch, block: u8, tag: &[u8], leaps: &[u32]) -> Stepped
-    ensures { λ r. ⌜ r ≡ stepOf (now (leaps .entry)) w block (now (tag .entry)) ⌝ }
+// One offer, by value: a block number, its data valid word and its tag's bytes, with the list of leap days. The list is tested once, before
+// the tag is read.
+pub fn step(w: Watch, block: u8, valid: u8, tag: &[u8], leaps: &[u32]) -> Stepped
+    ensures { λ r. ⌜ r ≡ stepOf (now (leaps .entry)) w block valid (now (tag .entry)) ⌝ }
 {
-    let lent = bounds::lent(w, leaps);
-    if !bounds::is(lent, ground::ACCEPTED) {
+    let lent = watch_bounds::lent(w, leaps);
+    if !is(lent, ground::ACCEPTED) {
         return refused(w, lent);
     }
     let read = tag::read_by(tag, leaps);
-    let good = bounds::is(read.number, ground::ACCEPTED);
-    let number = bounds::offered(block, good);
-    if !bounds::is(number, ground::ACCEPTED) {
+    let good = is(read.number, ground::ACCEPTED);
+    let number = watch_bounds::offered(block, good);
+    if !is(number, ground::ACCEPTED) {
         return refused(w, number);
     }
     let t = read.tag;
-    rules::on_good(w, block, t, leaps)
+    rules::on_good(w, block, valid, t, leaps)
 }
 
 // One offer to a watch that the host lends, changed where it stands.
-pub fn offer(w: &mut Watch, block: u8, tag: &[u8], leaps: &[u32]) -> Verdict
-    ensures { λ r. ⌜ (now (w .exit) ≡ stepOf (now (leaps .entry)) (now (w .entry)) block (now (tag .entry)) .next) × (r ≡ stepOf (now (leaps .entry)) (now (w .entry)) block (now (tag .entry)) .verdict) ⌝ }
+pub fn offer(w: &mut Watch, block: u8, valid: u8, tag: &[u8], leaps: &[u32]) -> Verdict
+    ensures { λ r. ⌜ (now (w .exit) ≡ stepOf (now (leaps .entry)) (now (w .entry)) block valid (now (tag .entry)) .next) × (r ≡ stepOf (now (leaps .entry)) (now (w .entry)) block valid (now (tag .entry)) .verdict) ⌝ }
 {
-    let s = step(*w, block, tag, leaps);
+    let s = step(*w, block, valid, tag, leaps);
     *w = s.next;
     s.verdict
 }

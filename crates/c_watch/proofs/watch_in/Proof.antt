@@ -43,6 +43,9 @@ in-byte-requires c κs = search needs
 array-read-t21 : tie.Need-array-read-t21
 array-read-t21 c = search needs
 
+array-read-t18 : tie.Need-array-read-t18
+array-read-t18 c = search needs
+
 returns : tie.Need-returns
 returns c = rw (c .before .is-on .ensures, c .in-byte .ensures, c .before .before .tag-of .ensures)
 
@@ -63,4 +66,5 @@ watch-in-spec =
     array-read-in-byte
     in-byte-requires
     array-read-t21
+    array-read-t18
     returns)

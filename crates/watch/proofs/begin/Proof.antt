@@ -4,8 +4,8 @@ use mathlib.Core.Path.{ap}
 use borrow.Author.Needs.{needs}
 use Rattle.ground.proofs.LawsChoice.{yes, no}
 use Rattle.watch.specs.Rules.{beginOf}
-use Rattle.watch.specs.declared.Watch.{Watch}
-use Rattle.watch.proofs.LawsRules.{begun}
+use Rattle.watch_bounds.specs.declared.Watch.{Watch}
+use Rattle.watch.proofs.LawsSteps.{begun}
 use Rattle.watch.proofs.begin.Statement.{statement}
 use Rattle.watch.proofs.begin.Tie as tie
 

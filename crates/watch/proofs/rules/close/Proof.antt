@@ -1,19 +1,20 @@
--- `watch::rules::close` opens anew at block 0, and is idle after any other.
+-- `watch::rules::close` hands over the set and its count, and goes on by the block.
 -- Assumes nothing.
-use mathlib.Core.Path.{refl, ap, _∙_}
+use mathlib.Core.Path.{ap, _∙_}
+use lib.Count.{ones}
 use borrow.Author.Needs.{needs}
-use Rattle.ground.proofs.LawsChoice.{yes, no}
-use Rattle.watch.specs.declared.Watch.{Watch}
 use Rattle.watch.specs.declared.Verdict.the-variants.{Closed}
-use Rattle.watch.proofs.LawsRules.{stepped}
 use Rattle.watch.proofs.rules.close.Statement.{statement}
 use Rattle.watch.proofs.rules.close.Tie as tie
 
 returns : tie.Need-returns
-returns c = ap (λ (w : Watch). stepped w (Closed (c .before .before .before .args .why))) (c .expecting .ensures ∙ yes _ (c .before .before .is .ensures) (c .before .if1 .taken) refl)
-
-returns-2 : tie.Need-returns-2
-returns-2 c = ap (λ (w : Watch). stepped w (Closed (c .before .before .before .args .why))) (c .idle .ensures ∙ no _ (c .before .before .is .ensures) (c .before .if1 .left) refl)
+returns c =
+    let count = c .before in
+    let handed = count .before in
+    λ i. record {
+      next = c .after-closing .ensures i;
+      verdict = Closed (handed .before .args .why) (handed .handed .ensures i) ((count .count .ensures ∙ ap ones (handed .handed .ensures)) i);
+    }
 
 pub close-spec : {M : Type 1} → statement M
-close-spec = tie.close (tie.spec (λ c κs. search needs) (λ c κs. search needs) (λ c κs. search needs) returns returns-2)
+close-spec = tie.close (tie.spec (λ c κs. search needs) (λ c κs. search needs) (λ c κs. search needs) returns)

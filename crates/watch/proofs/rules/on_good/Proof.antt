@@ -25,7 +25,7 @@ returns c =
     let a = start .args in
     yes _ refl (c .before .before .before .if1 .taken)
     (c .on-open .ensures
-    ∙ ap (λ (d : ℤ). onOpen (a .w) (a .block) (a .t) d)
+    ∙ ap (λ (d : ℤ). onOpen (a .w) (a .block) (a .valid) (a .t) d)
     (toZ-ofZ (sfits-of {w = w64} (c .before .between .ok)) ∙ c .before .between .ensures ∙ ap (λ (leaps : List ℕ). between leaps (a .w .last) (a .t)) (firsts (a .leaps .now) (start .pre .1))))
 
 returns-2 : tie.Need-returns-2

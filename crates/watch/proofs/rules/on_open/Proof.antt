@@ -1,39 +1,41 @@
--- `watch::rules::on_open` asks the clock, back before late, then the rules for an offer in time.
+-- `watch::rules::on_open` asks for the rule, and follows it.
 -- Assumes nothing.
-use mathlib.Core.Path.{ap, _∙_}
-use lib.IntN.{ℤ, pos}
-use lib.Signed.{ltZ}
+use mathlib.Core.Path.{_≡_, sym, ap, _∙_}
+use Prim.Native.Nat.{ℕ, _^_, _≤_, _<_}
+use native.Mathlib.Nat.{lt-of-lt-of-le}
+use lib.IntN.{ℤ}
+use lib.Pow.{pow-mono}
 use mir.Facts.{toZ-ofZ}
 use borrow.Author.Needs.{needs}
-use Rattle.ground.proofs.LawsChoice.{yes, no}
-use Rattle.watch.specs.Rules.{onOpen}
+use Rattle.watch_rule.specs.Rules.{ruleOf}
+use Rattle.watch_rule.specs.declared.Rule.{Rule}
+use Rattle.watch_bounds.specs.declared.Watch.{Watch}
+use Rattle.watch.specs.Rules.{following}
 use Rattle.watch.proofs.rules.on_open.Statement.{statement}
 use Rattle.watch.proofs.rules.on_open.Tie as tie
 
+-- a set below the expected block is below block 10
+to-ten : (set e : ℕ) → e ≤ 10 → set < 2 ^ e → set < 2 ^ 10
+to-ten set e k h = lt-of-lt-of-le h (pow-mono {i = e} {j = 10} k)
+
+-- the rule of a time that came as a machine's number
+asked : (w : Watch) (b : ℕ) {r : Rule} {d e : ℤ} → d ≡ e → r ≡ ruleOf (w .expected) (w .limit) b d → r ≡ ruleOf (w .expected) (w .limit) b e
+asked w b same e = e ∙ ap (ruleOf (w .expected) (w .limit) b) same
+
+close-requires : tie.Need-close-requires
+close-requires c κs = let start = c .before .before .before .before in to-ten (start .args .w .fill) (start .args .w .expected) (start .pre .0) (start .pre .1)
+
 returns : tie.Need-returns
-unfolding onOpen
 returns c =
-    let back = c .before .before in
-    yes _ (back .is-back .ensures ∙ ap (λ (z : ℤ). ltZ z (pos 0)) (toZ-ofZ (back .before .fits .d))) (c .before .if1 .taken) (c .close .ensures)
+    let rule = c .before .before .before in
+    let a = rule .before .args in
+    c .keep .ensures ∙ ap (following (a .w) (a .block) (a .valid) (a .t)) (sym (c .before .enum-told .given .1) ∙ asked (a .w) (a .block) (toZ-ofZ (rule .before .fits .d)) (rule .rule-of .ensures))
 
 returns-2 : tie.Need-returns-2
-unfolding onOpen
 returns-2 c =
-    let late = c .before .before in
-    let back = late .before .before in
-    let d = toZ-ofZ (back .before .fits .d) in
-    no _ (back .is-back .ensures ∙ ap (λ (z : ℤ). ltZ z (pos 0)) d) (late .before .if1 .left)
-    (yes _ (late .is-late .ensures ∙ ap (λ (z : ℤ). ltZ (pos (back .before .args .w .limit)) z) d) (c .before .if2 .taken) (c .close2 .ensures))
-
-returns-3 : tie.Need-returns-3
-unfolding onOpen
-returns-3 c =
-    let late = c .before .before in
-    let back = late .before .before in
-    let d = toZ-ofZ (back .before .fits .d) in
-    no _ (back .is-back .ensures ∙ ap (λ (z : ℤ). ltZ z (pos 0)) d) (late .before .if1 .left)
-    (no _ (late .is-late .ensures ∙ ap (λ (z : ℤ). ltZ (pos (back .before .args .w .limit)) z) d) (c .before .if2 .left) (c .in-time .ensures))
+    let rule = c .before .before .before .before in
+    let a = rule .before .args in
+    c .close .ensures ∙ ap (following (a .w) (a .block) (a .valid) (a .t)) (sym (c .before .before .why .given .1) ∙ asked (a .w) (a .block) (toZ-ofZ (rule .before .fits .d)) (rule .rule-of .ensures))
 
 pub on-open-spec : {M : Type 1} → statement M
-on-open-spec =
-    tie.close (tie.spec (λ c κs. search needs) (λ c κs. search needs) returns (λ c κs. search needs) (λ c κs. search needs) returns-2 (λ c κs. search needs) returns-3)
+on-open-spec = tie.close (tie.spec (λ c κs. search needs) (λ c. search needs) (λ c κs. search needs) (λ c. search needs) close-requires returns returns-2)

@@ -1,0 +1,3 @@
+pub mod LawsBounds
+pub mod LawsSets
+pub mod KeepsNumbers
