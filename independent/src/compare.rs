@@ -4,11 +4,11 @@ use std::collections::BTreeMap;
 use std::fmt::Write;
 
 use crate::inputs::{self, Dice};
-use crate::library::{FieldAnswer, Library, LineAnswer, Model, ReadAnswer, SalvageAnswer};
+use crate::library::{FieldAnswer, Library, LineAnswer, Model, OfferAnswer, ReadAnswer, SalvageAnswer};
 use crate::rows;
 use crate::salvage::{changed_text, ENTRY_NUMBERS, SPAN};
 use crate::tags::Tag;
-use crate::watch::{Verdict, Watch};
+use crate::watch::Watch;
 
 /// Where a sequence of offers begins.
 #[derive(Clone, Copy, Debug)]
@@ -17,10 +17,11 @@ pub enum Start {
     Lent(Watch),
 }
 
-/// A block offered to a watch with its tag, and the leap days lent this time.
+/// A block offered to a watch with its data valid word and its tag, and the leap days lent this time.
 #[derive(Clone, Debug)]
 pub struct Offer {
     pub block: u8,
+    pub valid: u32,
     pub tag: Vec<u8>,
     pub leap_days: Vec<u32>,
 }
@@ -60,7 +61,7 @@ pub enum Answer {
     TagBytes(u8, [u8; 8]),
     Elapsed(u8, i64),
     Begun(u8, Watch),
-    Offers(u8, Vec<(Verdict, Watch)>),
+    Offers(u8, Vec<(OfferAnswer, Watch)>),
     Imager(u8, [bool; 4]),
     Sounder(u8, [bool; 2]),
     Field(FieldAnswer),
@@ -200,16 +201,16 @@ pub fn run(library: &dyn Library, case: &Case) -> Outcome {
                 Start::Begun(limit) => library.begin(*limit),
                 Start::Lent(watch) => (0, *watch),
             };
-            let mut verdicts = Vec::new();
-            for Offer { block, tag, leap_days } in offers {
+            let mut answers = Vec::new();
+            for Offer { block, valid, tag, leap_days } in offers {
                 let tag = lend_bytes(tag, 0);
                 let leap_days = lend_leap_days(leap_days);
-                let verdict = library.offer(&mut watch, *block, tag.get(), leap_days.get());
-                verdicts.push((verdict, watch));
+                let answer = library.offer(&mut watch, *block, *valid, tag.get(), leap_days.get());
+                answers.push((answer, watch));
                 bytes.push(("tag", tag));
                 lists.push(("leap days", leap_days));
             }
-            Answer::Offers(number, verdicts)
+            Answer::Offers(number, answers)
         }
         Case::Imager { words: lent } => {
             let lent = lend_words(lent, 0);
@@ -346,8 +347,8 @@ impl Case {
                 writeln!(text, "  leap days: {leap_days:?}").unwrap();
             }
             Case::Offers { start, offers } => {
-                for Offer { block, tag, leap_days } in offers {
-                    bytes(&format!("offer of block {block}, leap days {leap_days:?}, tag"), tag);
+                for Offer { block, valid, tag, leap_days } in offers {
+                    bytes(&format!("offer of block {block}, data valid {valid}, leap days {leap_days:?}, tag"), tag);
                 }
                 writeln!(text, "  start: {start:?}").unwrap();
             }
@@ -389,7 +390,7 @@ fn labels(answer: &Answer) -> Vec<String> {
         Answer::Read(read) => vec![read.number.to_string()],
         Answer::Field(field) => vec![format!("{:?}", field.found)],
         Answer::Line(line) => vec![line.number.to_string()],
-        Answer::Offers(_, verdicts) => verdicts.iter().map(|(verdict, _)| format!("{verdict:?}")).collect(),
+        Answer::Offers(_, answers) => answers.iter().map(|(answer, _)| format!("{:?}", answer.verdict)).collect(),
         Answer::Salvaged(answer, found) => {
             let name = |&found| if found == SPAN { "span".into() } else { format!("block {}", changed_text(found)) };
             [answer.number.to_string()].into_iter().chain(found.iter().map(name)).collect()
@@ -461,6 +462,16 @@ pub fn difference(library: &dyn Library, case: &Case, ours: &Outcome) -> Option<
     Some(text)
 }
 
+/// One case on the model and on a library, the model's answer counted.
+pub(crate) fn compare_case(library: &dyn Library, case: &Case, tally: &mut Tally) -> Result<(), String> {
+    let ours = run(&Model, case);
+    tally.count(case.kind(), &ours.answer);
+    match difference(library, case, &ours) {
+        Some(text) => Err(text),
+        None => Ok(()),
+    }
+}
+
 /// How often each answer of each kind was met.
 #[derive(Default)]
 pub struct Tally(pub BTreeMap<(&'static str, String), u64>);
@@ -501,11 +512,7 @@ pub fn case_of(seed: u64, number: u64) -> Case {
 pub fn compare(library: &dyn Library, seed: u64, first: u64, end: u64, tally: &mut Tally) -> Result<(), String> {
     for number in first..end {
         let case = case_of(seed, number);
-        let ours = run(&Model, &case);
-        tally.count(case.kind(), &ours.answer);
-        if let Some(text) = difference(library, &case, &ours) {
-            return Err(format!("seed {seed}, case {number}: {text}"));
-        }
+        compare_case(library, &case, tally).map_err(|text| format!("seed {seed}, case {number}: {text}"))?;
     }
     Ok(())
 }

@@ -1,24 +1,15 @@
 //! Cases with leap days, in a run of their own, so that the others stay as they
 //! are. Some have names, the rest are drawn.
 
-use crate::compare::{difference, run, Case, Offer, Start, Tally};
+use crate::compare::{compare_case, Case, Offer, Start, Tally};
 use crate::inputs::{digits, Dice};
 use crate::leaps::{self, clock, leap_tag_at, number, successive, Date, FIRST_DATE, LAST_DATE};
-use crate::library::{Library, Model};
+use crate::library::Library;
 use crate::tags::{self, Tag, MOST_LEAP_DAYS};
-use crate::watch::{Watch, LONGEST_WAIT};
+use crate::watch::{Watch, LONGEST_WAIT, VALID};
 
 pub fn leap_case_of(seed: u64, number: u64) -> Case {
     leaps::case(&mut Dice::for_case(seed, number))
-}
-
-fn compare_case(library: &dyn Library, case: &Case, tally: &mut Tally) -> Result<(), String> {
-    let ours = run(&Model, case);
-    tally.count(case.kind(), &ours.answer);
-    match difference(library, case, &ours) {
-        Some(text) => Err(text),
-        None => Ok(()),
-    }
 }
 
 /// Drawn cases.
@@ -46,8 +37,8 @@ fn judges(leap_days: &[u32]) -> Vec<Case> {
         Case::Elapsed { first, second, leap_days: leap_days.clone() },
     ];
     for open in [false, true] {
-        let watch = Watch { open, expected: 3, tag, limit: 1_000 };
-        let offer = Offer { block: 0, tag: ends[1].clone(), leap_days: leap_days.clone() };
+        let watch = Watch { open, expected: 3, tag, limit: 1_000, fill: 0 };
+        let offer = Offer { block: 0, valid: VALID, tag: ends[1].clone(), leap_days: leap_days.clone() };
         cases.push(Case::Offers { start: Start::Lent(watch), offers: vec![offer] });
     }
     cases
@@ -127,10 +118,11 @@ fn offers_refused() -> Vec<Case> {
             expected: if has(1) { 11 } else { 4 },
             tag: leap_second(has(3)),
             limit: if has(0) { LONGEST_WAIT + 1 } else { 1_000 },
+            fill: 0,
         };
         let leap_days = if has(2) { vec![2_016_366, 2_016_366] } else { vec![2_016_366] };
         let tag = digits(&leap_second(has(5))).to_vec();
-        let offer = Offer { block: if has(4) { 12 } else { 4 }, tag, leap_days };
+        let offer = Offer { block: if has(4) { 12 } else { 4 }, valid: VALID, tag, leap_days };
         cases.push(Case::Offers { start: Start::Lent(watch), offers: vec![offer] });
     }
     cases
@@ -166,7 +158,7 @@ fn scans_across() -> Vec<Case> {
         let opening = clock(LEAP_DAY, 23, 59, 59).time(&days) + 200;
         let offer = |block: u8| {
             let tag = leap_tag_at(opening + 200 * block as i64, &days, false);
-            Offer { block, tag: digits(&tag).to_vec(), leap_days: leap_days.clone() }
+            Offer { block, valid: VALID, tag: digits(&tag).to_vec(), leap_days: leap_days.clone() }
         };
         cases.push(Case::Offers { start: Start::Begun(limit), offers: (0..=10).map(offer).collect() });
     }

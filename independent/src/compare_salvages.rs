@@ -1,22 +1,13 @@
 //! Salvages, in a run of their own: they are longer than other cases.
 
-use crate::compare::{difference, run, Case, Tally};
+use crate::compare::{compare_case, Case, Tally};
 use crate::inputs::Dice;
-use crate::library::{Library, Model};
+use crate::library::Library;
 use crate::salvage;
 use crate::tapes;
 
 pub fn salvage_of(seed: u64, number: u64) -> Case {
     tapes::case(&mut Dice::for_case(seed, number))
-}
-
-fn compare_case(library: &dyn Library, case: &Case, tally: &mut Tally) -> Result<(), String> {
-    let ours = run(&Model, case);
-    tally.count(case.kind(), &ours.answer);
-    match difference(library, case, &ours) {
-        Some(text) => Err(text),
-        None => Ok(()),
-    }
 }
 
 /// The rooms asked for, each of them one smaller, and all larger.

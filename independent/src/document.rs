@@ -1,17 +1,17 @@
 //! The numbered table, the further run cases, block 2 by version, the listing's
-//! example, the salvage's, leap seconds and the errors trainees bring, with the
-//! answers that the specification prints. Nothing here asks the model, so it is
-//! checked like any library.
+//! example, the salvage's, leap seconds, which blocks were fill and the errors
+//! trainees bring, with the answers that the specification prints. Nothing here
+//! asks the model, so it is checked like any library.
 
 use std::fmt::Debug;
 
 use crate::check::check_word;
 use crate::inputs::{digits, field};
-use crate::library::{Library, SalvageAnswer};
+use crate::library::{Library, OfferAnswer, SalvageAnswer};
 use crate::salvage::text;
 use crate::tags::Tag;
 use crate::tapes;
-use crate::watch::{Verdict, Watch};
+use crate::watch::{Verdict, Watch, VALID};
 
 pub struct Findings {
     pub run: usize,
@@ -379,6 +379,11 @@ const LEAP_SECOND: [u8; 8] = [0x20, 0x16, 0x36, 0x62, 0x35, 0x96, 0x00, 0x00];
 const LEAP_SECOND_ENDS: [u8; 8] = [0x20, 0x16, 0x36, 0x62, 0x35, 0x96, 0x09, 0x99];
 const NEW_YEAR: [u8; 8] = [0x20, 0x17, 0x00, 0x10, 0x00, 0x00, 0x00, 0x00];
 
+/// The verdict on a block of valid data.
+fn offer_valid(library: &dyn Library, watch: &mut Watch, block: u8, tag: &[u8], leap_days: &[u32]) -> Verdict {
+    library.offer(watch, block, VALID, tag, leap_days).verdict
+}
+
 /// The end of 2016, with its last day listed and not, and lists that are refused.
 pub fn leap_seconds(library: &dyn Library, found: &mut Findings) {
     leap_second_tags(library, found);
@@ -480,9 +485,9 @@ fn leap_lists(library: &dyn Library, found: &mut Findings) {
         let time = i64::from(accepted);
         found.expect(&what("elapsed time"), library.elapsed(&LATE_TAG, &NEXT_TAG, &list), (number, time));
         for open in [false, true] {
-            let before = Watch { open, expected: 1, tag: late, limit: 1 };
+            let before = Watch { open, expected: 1, tag: late, limit: 1, fill: 0 };
             let mut watch = before;
-            let verdict = library.offer(&mut watch, 2, &NEXT_TAG, &list);
+            let verdict = offer_valid(library, &mut watch, 2, &NEXT_TAG, &list);
             let wanted = match (accepted, open) {
                 (false, _) => Verdict::Refused(19),
                 (true, false) => Verdict::Stray,
@@ -509,44 +514,48 @@ fn list_before_tag(library: &dyn Library, found: &mut Findings) {
 
 /// A record, list, block and tag with every ground for refusal; each one answered is mended.
 fn watch_refusals_in_order(library: &dyn Library, found: &mut Findings) {
-    let mut watch = Watch { open: true, expected: 11, tag: clock(2016, 366, 23, 59, 61, 0), limit: 3_600_001 };
+    let bad_tag = clock(2016, 366, 23, 59, 61, 0);
+    let mut watch = Watch { open: true, expected: 11, tag: bad_tag, limit: 3_600_001, fill: 1 << 11 };
     let (mut list, mut block, mut tag) = (vec![LEAP_DAY, LEAP_DAY], 12, [0xFF; 8]);
-    for number in [16, 13, 19, 12, 4, 12] {
+    for number in [16, 13, 20, 19, 12, 4, 12] {
         let before = watch;
-        let verdict = library.offer(&mut watch, block, &tag, &list);
+        let verdict = offer_valid(library, &mut watch, block, &tag, &list);
         found.expect("refusals in their order", (verdict, watch), (Verdict::Refused(number), before));
         match number {
             16 => watch.limit = 1_000,
             13 => watch.expected = 10,
+            20 => watch.fill = 0,
             19 => list = vec![LEAP_DAY],
             12 if block == 12 => watch.tag.second = 60,
             4 => block = 10,
             _ => tag = NEW_YEAR,
         }
     }
-    found.expect("all mended", library.offer(&mut watch, block, &tag, &list), Verdict::Complete);
+    found.expect("all mended", offer_valid(library, &mut watch, block, &tag, &list), Verdict::Complete);
     // What an idle record is not asked for does not come before the list.
-    let mut idle = Watch { open: false, expected: 11, tag: clock(10_000, 0, 0, 0, 0, 0), limit: 0 };
-    found.expect("idle", library.offer(&mut idle, 12, &[], &[0]), Verdict::Refused(19));
-    found.expect("idle, good list", library.offer(&mut idle, 12, &[], &[LEAP_DAY]), Verdict::Refused(4));
-    idle.limit = 3_600_001;
-    found.expect("idle, limit", library.offer(&mut idle, 12, &[], &[0]), Verdict::Refused(16));
+    let mut idle = Watch { open: false, expected: 11, tag: clock(10_000, 0, 0, 0, 0, 0), limit: 0, fill: 1 };
+    found.expect("idle, set", offer_valid(library, &mut idle, 12, &[], &[0]), Verdict::Refused(20));
+    idle.fill = 0;
+    found.expect("idle", offer_valid(library, &mut idle, 12, &[], &[0]), Verdict::Refused(19));
+    found.expect("idle, good list", offer_valid(library, &mut idle, 12, &[], &[LEAP_DAY]), Verdict::Refused(4));
+    (idle.limit, idle.fill) = (3_600_001, 1);
+    found.expect("idle, limit", offer_valid(library, &mut idle, 12, &[], &[0]), Verdict::Refused(16));
 }
 
 fn last_tag_by_the_list_lent_now(library: &dyn Library, found: &mut Findings) {
     let (_, mut watch) = library.begin(1_000);
-    let opened = library.offer(&mut watch, 0, &LEAP_SECOND, &[LEAP_DAY]);
+    let opened = offer_valid(library, &mut watch, 0, &LEAP_SECOND, &[LEAP_DAY]);
     found.expect("opened in a leap second", opened, Verdict::Opened);
     found.expect("its tag", watch.tag, clock(2016, 366, 23, 59, 60, 0));
     let before = watch;
     for list in [&[][..], &[2_016_365]] {
-        let verdict = library.offer(&mut watch, 1, &NEW_YEAR, list);
+        let verdict = offer_valid(library, &mut watch, 1, &NEW_YEAR, list);
         found.expect("last tag not listed now", (verdict, watch), (Verdict::Refused(12), before));
     }
-    let verdict = library.offer(&mut watch, 1, &NEW_YEAR, &[LEAP_DAY]);
+    let verdict = offer_valid(library, &mut watch, 1, &NEW_YEAR, &[LEAP_DAY]);
     found.expect("listed again", verdict, Verdict::Kept);
     // From here on no tag is in a leap second, and any list will do.
-    found.expect("no list", library.offer(&mut watch, 2, &NEW_YEAR, &[]), Verdict::Kept);
+    found.expect("no list", offer_valid(library, &mut watch, 2, &NEW_YEAR, &[]), Verdict::Kept);
 }
 
 /// Eleven tags 200 ms apart, from 23:59:59.200 to 00:00:00.200: two seconds.
@@ -559,7 +568,7 @@ fn scan_across_a_leap_second(library: &dyn Library, found: &mut Findings) {
     let tags: Vec<[u8; 8]> = (0..=10).map(|block| digits(&tag(block))).collect();
     let scan = |limit: u32, list: &[u32]| -> Vec<Verdict> {
         let mut watch = library.begin(limit).1;
-        (0..).zip(&tags).map(|(block, tag)| library.offer(&mut watch, block, tag, list)).collect()
+        (0..).zip(&tags).map(|(block, tag)| offer_valid(library, &mut watch, block, tag, list)).collect()
     };
     use Verdict::*;
     let whole = [&[Opened][..], &[Kept; 9], &[Complete]].concat();
@@ -570,6 +579,127 @@ fn scan_across_a_leap_second(library: &dyn Library, found: &mut Findings) {
     let refused = [&[Opened][..], &[Kept; 3], &[Refused(12); 5], &[Broken, Stray]].concat();
     found.expect("the same, not listed", scan(200, &[]), refused);
     found.expect("its time", library.elapsed(&tags[0], &tags[10], &[LEAP_DAY]), (0, 2_000));
+}
+
+/// Fill blocks are kept while a scan is open, and handed over as it closes.
+pub fn fill_blocks(library: &dyn Library, found: &mut Findings) {
+    words_of_fill(library, found);
+    fill_of_completed_scans(library, found);
+    fill_of_other_scans(library, found);
+    fill_stays_as_it_was(library, found);
+    sets_out_of_bounds(library, found);
+}
+
+/// A tag at a second of 2008 day 60.
+fn at(second: u8) -> [u8; 8] {
+    digits(&clock(2008, 60, 0, 0, second, 0))
+}
+
+/// Table 3-5 calls 1 valid.
+fn words_of_fill(library: &dyn Library, found: &mut Findings) {
+    for (word, set) in [(1, 0), (0, 1), (2, 1), (3, 1), (128, 1), (255, 1), (256, 1), (257, 1), (u32::MAX, 1)] {
+        let what = |when: &str| format!("data valid word {word}, {when}");
+        let (_, mut watch) = library.begin(1_000);
+        found.expect(&what("begun"), watch.fill, 0);
+        let opened = library.offer(&mut watch, 0, word, &at(1), &[]);
+        found.expect(&what("opened"), opened, OfferAnswer { verdict: Verdict::Opened, fill: 0, count: 0 });
+        found.expect(&what("kept"), watch.fill, set);
+        let broken = library.offer(&mut watch, 2, 1, &at(2), &[]);
+        found.expect(&what("broken"), broken, OfferAnswer { verdict: Verdict::Broken, fill: set, count: set });
+    }
+}
+
+/// A watch that was offered blocks from 0 on, a second apart, some of them fill, and its last answer.
+fn offered(library: &dyn Library, last: u8, fill: &[u8]) -> (Watch, OfferAnswer) {
+    let (_, mut watch) = library.begin(1_000);
+    let mut answer = OfferAnswer::refused(0);
+    for block in 0..=last {
+        let word = if fill.contains(&block) { 0 } else { 1 };
+        answer = library.offer(&mut watch, block, word, &at(10 + block), &[]);
+    }
+    (watch, answer)
+}
+
+fn fill_of_completed_scans(library: &dyn Library, found: &mut Findings) {
+    let rows: [(&[u8], u32, u32); 8] = [
+        (&[], 0, 0),
+        (&[0], 1, 1),
+        (&[9], 512, 1),
+        (&[10], 1_024, 1),
+        (&[0, 10], 1_025, 2),
+        (&[3, 4, 5, 6], 120, 4),
+        (&[7, 8, 9, 10], 1_920, 4),
+        (&[0, 1, 2, 3, 4, 5, 6, 7, 8, 9, 10], 2_047, 11),
+    ];
+    for (blocks, fill, count) in rows {
+        let (before, kept) = offered(library, 9, blocks);
+        let what = |when: &str| format!("scan with fill {blocks:?}, {when}");
+        found.expect(&what("kept"), kept, OfferAnswer { verdict: Verdict::Kept, fill: 0, count: 0 });
+        found.expect(&what("so far"), before.fill, fill & !1_024);
+        let (after, complete) = offered(library, 10, blocks);
+        found.expect(&what("complete"), complete, OfferAnswer { verdict: Verdict::Complete, fill, count });
+        found.expect(&what("idle"), after, Watch { limit: 1_000, ..Watch::default() });
+    }
+}
+
+/// A scan up to block 3 with blocks 1 and 3 fill, closed by fill and by valid data, by block 0 and by others.
+fn fill_of_other_scans(library: &dyn Library, found: &mut Findings) {
+    use Verdict::*;
+    let closings = [(12, ClockBack, 4), (15, Late, 4), (14, Broken, 5), (14, Broken, 10), (14, Broken, 11)];
+    let by_block_0 = [(12, ClockBack, 0), (15, Late, 0), (14, Broken, 0)];
+    for (second, verdict, block) in closings.into_iter().chain(by_block_0) {
+        for word in [0, 1, 2] {
+            let what = |when: &str| format!("{verdict:?} by block {block}, data valid word {word}, {when}");
+            let (mut watch, _) = offered(library, 3, &[1, 3]);
+            let answer = library.offer(&mut watch, block, word, &at(second), &[]);
+            found.expect(&what("handed over"), answer, OfferAnswer { verdict, fill: 10, count: 2 });
+            let opens = block == 0;
+            found.expect(&what("opens"), (watch.open, watch.expected), (opens, u8::from(opens)));
+            found.expect(&what("kept"), watch.fill, u32::from(opens && word != 1));
+        }
+    }
+}
+
+/// Refused offers and strays, all of them fill.
+fn fill_stays_as_it_was(library: &dyn Library, found: &mut Findings) {
+    let (open, _) = offered(library, 3, &[1, 3]);
+    let (_, idle) = library.begin(1_000);
+    let offers: [(u8, &[u8], &[u32], u8); 4] =
+        [(4, &at(14)[..7], &[], 12), (4, &[0xFF; 8], &[], 12), (12, &at(14), &[], 4), (4, &at(14), &[0], 19)];
+    for before in [open, idle] {
+        for (block, tag, list, number) in offers {
+            let mut watch = before;
+            let answer = library.offer(&mut watch, block, 0, tag, list);
+            found.expect("a refused block of fill", (answer, watch), (OfferAnswer::refused(number), before));
+        }
+    }
+    for block in 1..=11 {
+        let mut watch = idle;
+        let answer = library.offer(&mut watch, block, 0, &at(14), &[]);
+        let stray = OfferAnswer { verdict: Verdict::Stray, fill: 0, count: 0 };
+        found.expect("a stray of fill", (answer, watch), (stray, idle));
+    }
+}
+
+/// Lent records with sets in bounds and out of them, offered block 11.
+fn sets_out_of_bounds(library: &dyn Library, found: &mut Findings) {
+    let open = [(1, 0, 0), (1, 1, 1), (4, 8, 1), (4, 15, 4), (10, 512, 1), (10, 1_023, 10)];
+    for (expected, fill, count) in open {
+        let mut watch = Watch { open: true, expected, tag: clock(2008, 60, 0, 0, 1, 0), limit: 1_000, fill };
+        let answer = library.offer(&mut watch, 11, 0, &at(2), &[]);
+        let what = format!("block {expected} expected, set {fill}");
+        found.expect(&what, answer, OfferAnswer { verdict: Verdict::Broken, fill, count });
+    }
+    let bad = [(1, 2), (1, 3), (4, 16), (4, 31), (4, 1_024), (10, 1_024), (10, 2_047), (10, 2_048), (10, 1 << 31)];
+    let idle = [(0, 1), (1, 1), (10, 1), (10, 512), (11, 1_024), (255, 1 << 11), (255, 1 << 31)];
+    let records = bad.map(|record| (true, record)).into_iter().chain(idle.map(|record| (false, record)));
+    for (open, (expected, fill)) in records {
+        let before = Watch { open, expected, tag: clock(2008, 60, 0, 0, 1, 0), limit: 1_000, fill };
+        let mut watch = before;
+        let answer = library.offer(&mut watch, 11, 0, &at(2), &[]);
+        let what = format!("open {open}, block {expected} expected, set {fill}");
+        found.expect(&what, (answer, watch), (OfferAnswer::refused(20), before));
+    }
 }
 
 pub fn trainee_errors(library: &dyn Library, found: &mut Findings) {
@@ -618,8 +748,8 @@ pub fn trainee_errors(library: &dyn Library, found: &mut Findings) {
 
     // A tag one millisecond back closes the scan, however long the limit.
     let (_, mut watch) = library.begin(3_600_000);
-    found.expect("opened", library.offer(&mut watch, 0, &NEXT_TAG, &[]), Verdict::Opened);
-    found.expect("clock back", library.offer(&mut watch, 1, &LATE_TAG, &[]), Verdict::ClockBack);
+    found.expect("opened", offer_valid(library, &mut watch, 0, &NEXT_TAG, &[]), Verdict::Opened);
+    found.expect("clock back", offer_valid(library, &mut watch, 1, &LATE_TAG, &[]), Verdict::ClockBack);
     found.expect("idle", (watch.open, watch.expected, watch.tag), (false, 0, Tag::default()));
 
     // Word 7905 is outside the fourth section, word 7902 inside.
@@ -640,6 +770,7 @@ pub fn all(library: &dyn Library) -> Findings {
     listing(library, &mut found);
     salvage(library, &mut found);
     leap_seconds(library, &mut found);
+    fill_blocks(library, &mut found);
     trainee_errors(library, &mut found);
     found
 }

@@ -8,7 +8,7 @@ use crate::document;
 use crate::header::{self, sealed, HEADER};
 use crate::rows::{self, LARGEST_C, LARGEST_N};
 use crate::tags::{days_in, LeapDays, Tag};
-use crate::watch::{self, Watch, LONGEST_WAIT};
+use crate::watch::{self, Watch, LONGEST_WAIT, VALID};
 use crate::words;
 
 /// Records are asked for up to this number: the width of a byte.
@@ -758,7 +758,7 @@ fn strained_limit(dice: &mut Dice) -> u32 {
     }
 }
 
-fn begin_case(dice: &mut Dice) -> Case {
+pub(crate) fn begin_case(dice: &mut Dice) -> Case {
     Case::Begin { limit: if dice.one_in(2) { some_limit(dice) } else { strained_limit(dice) } }
 }
 
@@ -769,6 +769,7 @@ pub(crate) fn lent_watch(dice: &mut Dice) -> Watch {
         expected: dice.between(1, 10) as u8,
         tag: some_tag(dice),
         limit: some_limit(dice),
+        fill: 0,
     };
     // Two faults at once show in which order they are tested.
     for _ in 0..dice.pick(&[0, 0, 1, 1, 2, 3]) {
@@ -838,8 +839,8 @@ fn offers_case(dice: &mut Dice) -> Case {
         };
         let tag =
             if noisy(dice) && dice.one_in(2) { lent_tag(dice) } else { digits(&tag_at(now, dice.one_in(4))).to_vec() };
-        watch::offer(&mut watch, block, &tag, &[]);
-        offers.push(Offer { block, tag, leap_days: vec![] });
+        watch::offer(&mut watch, block, VALID, &tag, &[]);
+        offers.push(Offer { block, valid: VALID, tag, leap_days: vec![] });
     }
     Case::Offers { start, offers }
 }

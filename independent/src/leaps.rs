@@ -8,7 +8,7 @@ use crate::inputs::{
     digits, lent_tag, lent_watch, often_at_edge, some_limit, some_tag, strained_tag, tag_at, Dice, LAST_TIME,
 };
 use crate::tags::{days_in, leap_days, LeapDays, Tag, MOST_LEAP_DAYS};
-use crate::watch::{self, Watch, LONGEST_WAIT};
+use crate::watch::{self, Watch, LONGEST_WAIT, VALID};
 
 /// A year and a day of it.
 pub type Date = (u16, u16);
@@ -80,7 +80,7 @@ pub fn leap_tag_at(time: i64, leap_days: &LeapDays, flywheel: bool) -> Tag {
 
 // ---- lists ----
 
-fn some_date(dice: &mut Dice) -> Date {
+pub(crate) fn some_date(dice: &mut Dice) -> Date {
     let tag = some_tag(dice);
     match dice.below(4) {
         0 => dice.pick(&[FIRST_DATE, (0, 366), (1972, 182), (1999, 365), (2000, 366), (2016, 366), LAST_DATE]),
@@ -90,7 +90,7 @@ fn some_date(dice: &mut Dice) -> Date {
 }
 
 /// One to 64 days. A date is mostly among them, its neighbours as often as not.
-fn good_list(dice: &mut Dice, date: Date) -> Vec<u32> {
+pub(crate) fn good_list(dice: &mut Dice, date: Date) -> Vec<u32> {
     let count = match dice.below(3) {
         0 => dice.pick(&[MOST_LEAP_DAYS - 1, MOST_LEAP_DAYS]),
         1 => dice.between(1, MOST_LEAP_DAYS),
@@ -146,7 +146,7 @@ fn spoil(dice: &mut Dice, list: &mut Vec<u32>, date: Date) {
     }
 }
 
-fn bad_list(dice: &mut Dice, date: Date) -> Vec<u32> {
+pub(crate) fn bad_list(dice: &mut Dice, date: Date) -> Vec<u32> {
     if dice.one_in(4) {
         // Lengths that are good ones where they are kept in a byte, too.
         let length = dice.pick(&[65, 65, 65, 66, 80, 128, 255, 256, 257, 320]);
@@ -326,8 +326,8 @@ impl Scan {
         for _ in 0..count {
             let leap_days = self.leap_days(dice);
             let (block, tag) = (self.block(dice), self.tag(dice, &leap_days));
-            watch::offer(&mut self.watch, block, &tag, &leap_days);
-            offers.push(Offer { block, tag, leap_days });
+            watch::offer(&mut self.watch, block, VALID, &tag, &leap_days);
+            offers.push(Offer { block, valid: VALID, tag, leap_days });
         }
         offers
     }

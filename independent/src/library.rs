@@ -58,6 +58,28 @@ impl LineAnswer {
     }
 }
 
+/// The verdict on an offer and, of a scan that it closes, the set of fill blocks and how many it has.
+#[derive(Clone, Copy, Debug, PartialEq, Eq)]
+pub struct OfferAnswer {
+    pub verdict: Verdict,
+    pub fill: u32,
+    pub count: u32,
+}
+
+impl OfferAnswer {
+    pub fn closing(verdict: Verdict, fill: u32) -> OfferAnswer {
+        OfferAnswer { verdict, fill, count: watch::blocks(fill).count() as u32 }
+    }
+
+    pub fn closing_none(verdict: Verdict) -> OfferAnswer {
+        OfferAnswer { verdict, fill: 0, count: 0 }
+    }
+
+    pub fn refused(number: u8) -> OfferAnswer {
+        OfferAnswer::closing_none(Verdict::Refused(number))
+    }
+}
+
 /// Bytes of the recording, entries of the report, and how many of these are blocks.
 #[derive(Clone, Copy, Debug, PartialEq, Eq)]
 pub struct SalvageAnswer {
@@ -89,7 +111,8 @@ pub trait Library {
     fn write_tag(&self, tag: &Tag, leap_days: &[u32]) -> (u8, [u8; 8]);
     fn elapsed(&self, first: &[u8], second: &[u8], leap_days: &[u32]) -> (u8, i64);
     fn begin(&self, limit: u32) -> (u8, Watch);
-    fn offer(&self, watch: &mut Watch, block: u8, tag: &[u8], leap_days: &[u32]) -> Verdict;
+    /// `valid` is word 9 of the block's header.
+    fn offer(&self, watch: &mut Watch, block: u8, valid: u32, tag: &[u8], leap_days: &[u32]) -> OfferAnswer;
     fn imager(&self, words: &[u16]) -> (u8, [bool; 4]);
     fn sounder(&self, words: &[u16]) -> (u8, [bool; 2]);
     fn next_field(&self, recording: &[u8], at: usize) -> FieldAnswer;
@@ -167,8 +190,8 @@ impl Library for Model {
     fn begin(&self, limit: u32) -> (u8, Watch) {
         watch::begin(limit)
     }
-    fn offer(&self, watch: &mut Watch, block: u8, tag: &[u8], leap_days: &[u32]) -> Verdict {
-        watch::offer(watch, block, tag, leap_days)
+    fn offer(&self, watch: &mut Watch, block: u8, valid: u32, tag: &[u8], leap_days: &[u32]) -> OfferAnswer {
+        watch::offer(watch, block, valid, tag, leap_days)
     }
     fn imager(&self, words: &[u16]) -> (u8, [bool; 4]) {
         parity::imager(words)

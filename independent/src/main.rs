@@ -1,10 +1,11 @@
 //! compare SEED COUNT [FAULT]: the model against the library, or, with a fault (a number from 1), against one that is wrong on purpose.
-//! One salvage is compared for every twenty cases, and one case with leap days for every five.
+//! One salvage is compared for every twenty cases, one case with leap days for every five, and one with fill blocks for every five.
 //! Exit status 1 on a difference, 2 on bad arguments.
 
 use std::process::ExitCode;
 
 use independent::compare::{compare, compare_headers, compare_placements, Tally};
+use independent::compare_fills::compare_fills;
 use independent::compare_leaps::compare_leaps;
 use independent::compare_salvages::compare_salvages;
 use independent::compare_words::compare_words;
@@ -12,20 +13,23 @@ use independent::document;
 use independent::library::Library;
 use independent::real::Real;
 use independent::wrong::{Wrong, FAULTS};
+use independent::wrong_fills::FILL_FAULTS;
 use independent::wrong_leaps::LEAP_FAULTS;
 use independent::wrong_salvage::SALVAGE_FAULTS;
 
 fn usage() -> ExitCode {
-    eprintln!(
-        "usage: compare SEED COUNT [FAULT from 1 to {}]",
-        FAULTS.len() + SALVAGE_FAULTS.len() + LEAP_FAULTS.len()
-    );
+    eprintln!("usage: compare SEED COUNT [FAULT from 1 to {}]", faults().count());
     ExitCode::from(2)
 }
 
-/// The fault of a number from 1; those of a salvage come behind the others, and those in leap days last.
+/// Every fault: those of a salvage behind the others, then those in leap days, and those in fill blocks last.
+fn faults() -> impl Iterator<Item = &'static str> {
+    FAULTS.into_iter().chain(SALVAGE_FAULTS).chain(LEAP_FAULTS).chain(FILL_FAULTS)
+}
+
+/// The fault of a number from 1.
 fn fault_of(number: u64) -> Option<&'static str> {
-    FAULTS.iter().chain(&SALVAGE_FAULTS).chain(&LEAP_FAULTS).nth(usize::try_from(number).ok()?.checked_sub(1)?).copied()
+    faults().nth(usize::try_from(number).ok()?.checked_sub(1)?)
 }
 
 fn main() -> ExitCode {
@@ -49,15 +53,16 @@ fn main() -> ExitCode {
     let mut tally = Tally::default();
     let outcome = compare(&*library, seed, 0, count, &mut tally)
         .and_then(|()| compare_leaps(&*library, seed, count / 5, &mut tally))
-        .and_then(|leaps| Ok((leaps, compare_salvages(&*library, seed, count / 20, &mut tally)?)));
+        .and_then(|leaps| Ok((leaps, compare_fills(&*library, seed, count / 5, &mut tally)?)))
+        .and_then(|(leaps, fills)| Ok((leaps, fills, compare_salvages(&*library, seed, count / 20, &mut tally)?)));
     print!("{}", tally.lines());
-    let outcome = outcome.and_then(|(leaps, salvages)| {
+    let outcome = outcome.and_then(|(leaps, (fills, closings), salvages)| {
         let words = compare_words(&*library, seed, count)?;
         let placements = compare_placements(&*library)?;
         let headers = compare_headers(&*library)?;
         Ok(format!(
-            "{count} cases of seed {seed}, {leaps} with leap days, {salvages} salvages, {words} fields and words, \
-             {placements} placements and {headers} headers agree"
+            "{count} cases of seed {seed}, {leaps} with leap days, {fills} with fill blocks, {closings} closings, \
+             {salvages} salvages, {words} fields and words, {placements} placements and {headers} headers agree"
         ))
     });
     match outcome {

@@ -3,7 +3,7 @@
 use rahmisve_sys::*;
 
 use crate::inputs::LARGEST_K;
-use crate::library::{list_by_lines, FieldAnswer, Found, Library, LineAnswer, ReadAnswer, SalvageAnswer};
+use crate::library::{list_by_lines, FieldAnswer, Found, Library, LineAnswer, OfferAnswer, ReadAnswer, SalvageAnswer};
 use crate::tags::Tag;
 use crate::watch::{Verdict, Watch};
 
@@ -31,17 +31,33 @@ fn tag_of(time: &[u32]) -> Tag {
     }
 }
 
-fn record_of(watch: &Watch) -> [u32; 10] {
-    let mut record = [0; 10];
+fn record_of(watch: &Watch) -> [u32; 11] {
+    let mut record = [0; 11];
     record[0] = watch.open.into();
     record[1] = watch.expected.into();
     record[2..9].copy_from_slice(&numbers(&watch.tag));
     record[9] = watch.limit;
+    record[10] = watch.fill;
     record
 }
 
-fn watch_of(record: &[u32; 10]) -> Watch {
-    Watch { open: record[0] != 0, expected: record[1] as u8, tag: tag_of(&record[2..9]), limit: record[9] }
+fn watch_of(record: &[u32; 11]) -> Watch {
+    let [open, expected, .., limit, fill] = *record;
+    Watch { open: open != 0, expected: expected as u8, tag: tag_of(&record[2..9]), limit, fill }
+}
+
+fn verdict_of(verdict: u8, number: u8) -> Verdict {
+    match verdict {
+        0 => Verdict::Refused(number),
+        1 => Verdict::Stray,
+        2 => Verdict::Opened,
+        3 => Verdict::Kept,
+        4 => Verdict::ClockBack,
+        5 => Verdict::Late,
+        6 => Verdict::Broken,
+        7 => Verdict::Complete,
+        _ => panic!("verdict {verdict}"),
+    }
 }
 
 /// No leap days are lent as null, the way a caller in C has it.
@@ -136,40 +152,33 @@ impl Library for Real {
         (number, ms)
     }
     fn begin(&self, limit: u32) -> (u8, Watch) {
-        let mut record = [0x5A5A; 10];
+        let mut record = [0x5A5A; 11];
         let number = unsafe { rahmisve_watch_begin(limit, &mut record) };
         if number == 0 {
             return (0, watch_of(&record));
         }
-        assert_eq!(record, [0x5A5A; 10], "a refusal leaves the lent record");
-        (number, watch_of(&[0; 10]))
+        assert_eq!(record, [0x5A5A; 11], "a refusal leaves the lent record");
+        (number, watch_of(&[0; 11]))
     }
-    fn offer(&self, watch: &mut Watch, block: u8, tag: &[u8], leap_days: &[u32]) -> Verdict {
+    fn offer(&self, watch: &mut Watch, block: u8, valid: u32, tag: &[u8], leap_days: &[u32]) -> OfferAnswer {
         let mut record = record_of(watch);
-        let mut verdict = 0x5A;
+        let (mut verdict, mut fill, mut count) = (0x5A, 0x5A5A, 0x5A5A);
         let number = unsafe {
             rahmisve_watch_offer(
                 &mut record,
                 block.into(),
+                valid,
                 tag.as_ptr(),
                 tag.len(),
                 place_of(leap_days),
                 leap_days.len(),
                 &mut verdict,
+                &mut fill,
+                &mut count,
             )
         };
         *watch = watch_of(&record);
-        match verdict {
-            0 => Verdict::Refused(number),
-            1 => Verdict::Stray,
-            2 => Verdict::Opened,
-            3 => Verdict::Kept,
-            4 => Verdict::ClockBack,
-            5 => Verdict::Late,
-            6 => Verdict::Broken,
-            7 => Verdict::Complete,
-            _ => panic!("verdict {verdict}"),
-        }
+        OfferAnswer { verdict: verdict_of(verdict, number), fill, count }
     }
     fn imager(&self, words: &[u16]) -> (u8, [bool; 4]) {
         let mut holds = [0x5A; 4];

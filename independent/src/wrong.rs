@@ -3,10 +3,10 @@
 
 use crate::check::check_bytes;
 use crate::header::{meaning, passing, sealed, HEADER};
-use crate::library::{FieldAnswer, Found, Library, LineAnswer, Model, ReadAnswer, SalvageAnswer};
+use crate::library::{FieldAnswer, Found, Library, LineAnswer, Model, OfferAnswer, ReadAnswer, SalvageAnswer};
 use crate::tags::{self, Tag};
 use crate::watch::{Verdict, Watch};
-use crate::{rows, words, wrong_leaps, wrong_salvage};
+use crate::{rows, words, wrong_fills, wrong_leaps, wrong_salvage};
 
 pub const FAULTS: [&str; 80] = [
     "takes copy 1 unread",
@@ -452,31 +452,34 @@ impl Library for Wrong {
         if self.is("begins with any limit") {
             return (0, Watch { limit, ..Watch::default() });
         }
-        Model.begin(limit)
+        wrong_fills::begin(self.0, limit)
     }
 
-    fn offer(&self, watch: &mut Watch, block: u8, tag: &[u8], leap_days: &[u32]) -> Verdict {
+    fn offer(&self, watch: &mut Watch, block: u8, valid: u32, tag: &[u8], leap_days: &[u32]) -> OfferAnswer {
         let before = *watch;
         let offered = tags::read_tag(tag, leap_days);
         if self.is("watch only nods after its first offer") && watch.open {
-            return Verdict::Kept;
+            return OfferAnswer::closing_none(Verdict::Kept);
         }
-        let verdict = wrong_leaps::offer(self.0, watch, block, tag, leap_days);
-        let refused = matches!(verdict, Verdict::Refused(_));
-        match (self.0, verdict) {
+        let valid = wrong_fills::seen(self.0, valid);
+        let answer = wrong_leaps::offer(self.0, watch, block, valid, tag, leap_days);
+        let answer = wrong_fills::spoilt(self.0, &before, watch, block, valid, answer);
+        let other = |verdict: Verdict| OfferAnswer { verdict, ..answer };
+        let refused = matches!(answer.verdict, Verdict::Refused(_));
+        match (self.0, answer.verdict) {
             ("clips a backward wait to zero", Verdict::ClockBack) => {
                 *watch = before;
                 watch.tag = offered.1;
-                let verdict = Model.offer(watch, block, tag, leap_days);
-                if verdict == Verdict::Kept {
+                let answer = Model.offer(watch, block, valid, tag, leap_days);
+                if answer.verdict == Verdict::Kept {
                     watch.tag = offered.1;
                 }
-                return verdict;
+                return answer;
             }
             ("calls a wait of exactly the limit late", _) if before.open && !refused => {
                 let (_, wait) = Model.elapsed(&tags::spell(&before.tag), tag, leap_days);
                 if wait == before.limit as i64 {
-                    return Verdict::Late;
+                    return other(Verdict::Late);
                 }
             }
             ("opens no new scan on a closing block 0", _) if before.open && !refused && block == 0 => {
@@ -484,11 +487,11 @@ impl Library for Wrong {
             }
             ("ignores block 11 while open", Verdict::Broken) if block == 11 => {
                 *watch = before;
-                return Verdict::Stray;
+                return OfferAnswer::closing_none(Verdict::Stray);
             }
             ("asks for the block before the clock", Verdict::ClockBack | Verdict::Late) => {
                 if block != before.expected {
-                    return Verdict::Broken;
+                    return other(Verdict::Broken);
                 }
             }
             ("clears an idle record on a stray", Verdict::Stray) => {
@@ -497,7 +500,7 @@ impl Library for Wrong {
             ("tests the tag of an idle record", _) if !before.open && !refused => {
                 if before.tag != Tag::default() && Model.write_tag(&before.tag, leap_days).0 != 0 {
                     *watch = before;
-                    return Verdict::Refused(12);
+                    return OfferAnswer::refused(12);
                 }
             }
             ("closes on a refused offer", Verdict::Refused(4 | 12)) if before.open => {
@@ -505,17 +508,16 @@ impl Library for Wrong {
             }
             ("tests the limit of a lent record last", Verdict::Refused(16)) => {
                 let within = Watch { limit: 0, ..before };
-                if let Verdict::Refused(number) =
-                    Model.offer(&mut { within }, 0, &[0, 0, 0, 0x10, 0, 0, 0, 0], leap_days)
-                {
-                    return Verdict::Refused(number);
+                let mended = Model.offer(&mut { within }, 0, valid, &[0, 0, 0, 0x10, 0, 0, 0, 0], leap_days);
+                if matches!(mended.verdict, Verdict::Refused(_)) {
+                    return mended;
                 }
             }
             ("keeps the opening tag while the scan goes on", Verdict::Kept) => watch.tag = before.tag,
             ("loses the flywheel mark of a kept tag", Verdict::Kept) => watch.tag.flywheel = false,
             _ => {}
         }
-        verdict
+        answer
     }
 
     fn imager(&self, words: &[u16]) -> (u8, [bool; 4]) {

@@ -3,8 +3,10 @@
 
 use std::collections::BTreeSet;
 
+use crate::library::OfferAnswer;
 use crate::tags::{self, days_in, spell, spelt, LeapDays, Tag};
 use crate::watch::{self, Verdict, Watch, LONGEST_WAIT};
+use crate::wrong_fills;
 
 pub const LEAP_FAULTS: [&str; 36] = [
     "takes a list of 65 days",
@@ -177,19 +179,26 @@ pub fn elapsed(fault: &str, first: &[u8], second: &[u8], lent: &[u32]) -> (u8, i
     }
 }
 
-/// The tests of an offer by place: limit, expected block, list, last tag, block and tag.
-fn order(fault: &str) -> [usize; 6] {
+/// The tests of an offer by place: limit, expected block, set, list, last tag, block and tag.
+fn order(fault: &str) -> [usize; 7] {
     match fault {
-        "tests 19 before 16" => [2, 0, 1, 3, 4, 5],
-        "tests 19 before 13" => [0, 2, 1, 3, 4, 5],
-        "tests 19 after the last tag" => [0, 1, 3, 2, 4, 5],
-        "tests 19 after 4" => [0, 1, 3, 4, 2, 5],
-        "tests 19 after 12" => [0, 1, 3, 4, 5, 2],
-        _ => [0, 1, 2, 3, 4, 5],
+        "tests 19 before 16" => [3, 0, 1, 2, 4, 5, 6],
+        "tests 19 before 13" => [0, 3, 1, 2, 4, 5, 6],
+        "tests 19 after the last tag" => [0, 1, 2, 4, 3, 5, 6],
+        "tests 19 after 4" => [0, 1, 2, 4, 5, 3, 6],
+        "tests 19 after 12" => [0, 1, 2, 4, 5, 6, 3],
+        _ => wrong_fills::order(fault),
     }
 }
 
-fn try_offer(fault: &str, watch: &mut Watch, block: u8, tag: &[u8], lent: &[u32]) -> Result<Verdict, u8> {
+fn try_offer(
+    fault: &str,
+    watch: &mut Watch,
+    block: u8,
+    valid: u32,
+    tag: &[u8],
+    lent: &[u32],
+) -> Result<OfferAnswer, u8> {
     let list = leap_days(fault, lent);
     let bad_list = list.is_err() && (watch.open || fault != "tests 19 only when open");
     let leap_days = list.unwrap_or_default();
@@ -199,6 +208,7 @@ fn try_offer(fault: &str, watch: &mut Watch, block: u8, tag: &[u8], lent: &[u32]
     let refusals = [
         (16, watch.limit > LONGEST_WAIT),
         (13, watch.open && !(1..=10).contains(&watch.expected)),
+        (20, wrong_fills::out_of_bounds(fault, watch)),
         (19, bad_list),
         (12, watch.open && !in_bounds(fault, &watch.tag, for_last)),
         (4, block > 11),
@@ -209,17 +219,17 @@ fn try_offer(fault: &str, watch: &mut Watch, block: u8, tag: &[u8], lent: &[u32]
     }
     let tag = offered?;
     if !watch.open {
-        return Ok(watch::offer_idle(watch, block, tag));
+        return Ok(watch::offer_idle(watch, block, valid, tag));
     }
     let counted = if fault == "counts a wait without leap seconds" { &none } else { &leap_days };
     let d = time(fault, &tag, counted) - time(fault, &watch.tag, counted);
-    Ok(watch::offer_open(watch, block, tag, d))
+    Ok(watch::offer_open(watch, block, valid, tag, d))
 }
 
-pub fn offer(fault: &str, watch: &mut Watch, block: u8, tag: &[u8], lent: &[u32]) -> Verdict {
-    let verdict = try_offer(fault, watch, block, tag, lent).unwrap_or_else(Verdict::Refused);
-    if fault == "closes on refusal 19" && verdict == Verdict::Refused(19) {
+pub fn offer(fault: &str, watch: &mut Watch, block: u8, valid: u32, tag: &[u8], lent: &[u32]) -> OfferAnswer {
+    let answer = try_offer(fault, watch, block, valid, tag, lent).unwrap_or_else(OfferAnswer::refused);
+    if fault == "closes on refusal 19" && answer.verdict == Verdict::Refused(19) {
         *watch = Watch { limit: watch.limit, ..Watch::default() };
     }
-    verdict
+    answer
 }

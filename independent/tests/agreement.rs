@@ -5,6 +5,7 @@ use std::collections::BTreeSet;
 
 use independent::check::check_word;
 use independent::compare::{case_of, compare, compare_placements, difference, run, Answer, Case, Tally};
+use independent::compare_fills::compare_fills;
 use independent::compare_leaps::compare_leaps;
 use independent::compare_salvages::{compare_named, compare_salvages, compare_tapes, rooms_around, salvage_of};
 use independent::compare_words::{
@@ -79,6 +80,7 @@ fn without_a_fault_none_is_found() {
     compare_words(&library, 1, 5_000).unwrap();
     compare_salvages(&library, 1, 200, &mut Tally::default()).unwrap();
     compare_leaps(&library, 1, 5_000, &mut Tally::default()).unwrap();
+    compare_fills(&library, 1, 5_000, &mut Tally::default()).unwrap();
     assert!(document::all(&library).wrong.is_empty());
 }
 
@@ -345,14 +347,14 @@ fn a_completed_scan_stays_within_ten_limits() {
         let Case::Offers { start: independent::compare::Start::Begun(limit), offers } = &case else {
             continue;
         };
-        let Answer::Offers(0, verdicts) = run(&Model, &case).answer else { panic!() };
+        let Answer::Offers(0, answers) = run(&Model, &case).answer else { panic!() };
         let mut opening = 0;
         let mut was_open = false;
-        for (index, (verdict, watch)) in verdicts.iter().enumerate() {
-            if !matches!(verdict, Verdict::Refused(_)) && offers[index].block == 0 && watch.open {
+        for (index, (answered, watch)) in answers.iter().enumerate() {
+            if !matches!(answered.verdict, Verdict::Refused(_)) && offers[index].block == 0 && watch.open {
                 opening = index;
             }
-            if *verdict == Verdict::Complete {
+            if answered.verdict == Verdict::Complete {
                 let (answer, time) = Model.elapsed(&offers[opening].tag, &offers[index].tag, &[]);
                 assert!(was_open && answer == 0 && time >= 0 && time <= 10 * *limit as i64);
                 completed += 1;

@@ -1,16 +1,19 @@
 //! Leap days: the printed answers, libraries that are wrong about them on purpose, and what the drawn cases meet.
 
+mod offers;
+
 use std::collections::BTreeSet;
 
-use independent::compare::{difference, run, Answer, Case, Offer, Outcome, Start, Tally};
+use independent::compare::{difference, run, Case, Outcome, Start, Tally};
 use independent::compare_leaps::{compare_leap_cases, compare_named_leaps, leap_case_of};
 use independent::document::{self, Findings};
 use independent::leaps::{next_date, number, FIRST_DATE, LAST_DATE};
-use independent::library::{Library, Model};
+use independent::library::{Library, Model, OfferAnswer};
 use independent::tags::{date, days_in, leap_days, spelt, Tag, MOST_LEAP_DAYS};
-use independent::watch::{Verdict, Watch, LONGEST_WAIT};
+use independent::watch::Verdict;
 use independent::wrong::Wrong;
 use independent::wrong_leaps::LEAP_FAULTS;
+use offers::{grounds_not_met, offers};
 
 const DRAWN: u64 = 5_000;
 
@@ -215,74 +218,20 @@ fn every_kind_of_list_and_tag_is_drawn() {
     }
 }
 
-/// The grounds on which an offer could be refused, in the order in which they are tested.
-fn grounds(watch: &Watch, offer: &Offer) -> Vec<&'static str> {
-    let days = leap_days(&offer.leap_days);
-    let bad_list = days.is_err();
-    let days = days.unwrap_or_default();
-    let all = [
-        ("limit", watch.limit > LONGEST_WAIT),
-        ("expected block", watch.open && !(1..=10).contains(&watch.expected)),
-        ("list", bad_list),
-        ("last tag", watch.open && !watch.tag.in_bounds(&days)),
-        ("block", offer.block > 11),
-        ("tag", spelt(&offer.tag).filter(|tag| tag.in_bounds(&days)).is_none()),
-    ];
-    all.into_iter().filter(|(_, is_so)| *is_so).map(|(ground, _)| ground).collect()
-}
-
-/// What is remarkable about an offer, and the watch it comes to.
-fn offer_kinds(watch: &Watch, offer: &Offer, verdict: Verdict) -> Vec<String> {
-    let state = if watch.open { "open" } else { "idle" };
-    let grounds = grounds(watch, offer);
-    let mut kinds: Vec<String> = grounds.iter().map(|ground| format!("{state}: {ground}")).collect();
-    for (place, one) in grounds.iter().enumerate() {
-        kinds.extend(grounds[place + 1..].iter().map(|two| format!("{state}: {one} and {two}")));
-    }
-    if watch.open && watch.tag.second == 60 {
-        kinds.push(format!("last tag in a leap second: {verdict:?}"));
-    }
-    kinds
-}
-
-/// Each offer of a case with the watch before it and the verdict.
-fn offers(case: &Case) -> Vec<(Watch, &Offer, Verdict)> {
-    let (Case::Offers { start, offers }, Answer::Offers(0, verdicts)) = (case, run(&Model, case).answer) else {
-        return vec![];
-    };
-    let mut watch = match start {
-        Start::Begun(limit) => Model.begin(*limit).1,
-        Start::Lent(watch) => *watch,
-    };
-    let mut all = Vec::new();
-    for (offer, (verdict, after)) in offers.iter().zip(verdicts) {
-        all.push((watch, offer, verdict));
-        watch = after;
-    }
-    all
-}
-
 #[test]
 fn every_kind_of_offer_is_drawn() {
-    let mut met = BTreeSet::new();
-    for case in (0..DRAWN).map(|number| leap_case_of(7, number)) {
-        for (watch, offer, verdict) in offers(&case) {
-            met.extend(offer_kinds(&watch, offer, verdict));
-        }
-    }
+    let cases = || (0..DRAWN).map(|number| leap_case_of(7, number));
     let open = ["limit", "expected block", "list", "last tag", "block", "tag"];
     let idle = ["limit", "list", "block", "tag"];
-    for (state, grounds) in [("open", &open[..]), ("idle", &idle)] {
-        for (place, one) in grounds.iter().enumerate() {
-            assert!(met.contains(&format!("{state}: {one}")), "{state}: {one}");
-            for two in &grounds[place + 1..] {
-                assert!(met.contains(&format!("{state}: {one} and {two}")), "{state}: {one} and {two}");
-            }
-        }
+    assert_eq!(grounds_not_met(cases(), &open, &idle), Vec::<String>::new());
+
+    let mut met = BTreeSet::new();
+    for case in cases() {
+        let in_leap_second = offers(&case).into_iter().filter(|(watch, ..)| watch.open && watch.tag.second == 60);
+        met.extend(in_leap_second.map(|(.., answer)| format!("{:?}", answer.verdict)));
     }
     for verdict in ["Refused(12)", "Refused(19)", "Kept", "ClockBack", "Late", "Broken", "Complete"] {
-        let kind = format!("last tag in a leap second: {verdict}");
-        assert!(met.contains(&kind), "no {kind}");
+        assert!(met.contains(verdict), "no {verdict} with the last tag in a leap second");
     }
 }
 
@@ -301,7 +250,7 @@ fn a_scan_under_one_list_stays_within_ten_limits() {
     for case in (0..4 * DRAWN).map(|number| leap_case_of(15, number)) {
         let Some(list) = one_list(&case) else { continue };
         let mut opening = &[][..];
-        for (watch, offer, verdict) in offers(&case) {
+        for (watch, offer, OfferAnswer { verdict, .. }) in offers(&case) {
             if verdict == Verdict::Complete {
                 let (number, time) = Model.elapsed(opening, &offer.tag, list);
                 assert!(number == 0 && (0..=10 * watch.limit as i64).contains(&time));
@@ -321,7 +270,7 @@ fn a_scan_under_one_list_stays_within_ten_limits() {
 fn lists_change_while_scans_go_on() {
     let changed = |case: &Case| {
         let all = offers(case);
-        let complete = all.iter().position(|(.., verdict)| *verdict == Verdict::Complete)?;
+        let complete = all.iter().position(|(.., answer)| answer.verdict == Verdict::Complete)?;
         let scan = &all[complete.checked_sub(10)?..=complete];
         Some(scan.windows(2).any(|two| two[0].1.leap_days != two[1].1.leap_days))
     };

@@ -252,7 +252,8 @@ mod tests {
             let answer = read(body, &mut [0; 22_000]);
             if *tag == 1 && answer.number == 0 {
                 let block = meaning(&answer.header).unwrap().block;
-                verdicts.push(offer(&mut watch, block, &answer.header[16..24], leap_days));
+                let valid = answer.header[8].into();
+                verdicts.push(offer(&mut watch, block, valid, &answer.header[16..24], leap_days).verdict);
             }
         }
         verdicts
