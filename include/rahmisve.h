@@ -6,8 +6,9 @@
  *
  * VERSION. RAHMISVE_VERSION is the version of this file, rahmisve_version() that of the archive. Every change of a signature, a size or a
  * place raises it, every new or changed number of an answer, a verdict or a find, and every change of what a block's row allows or its
- * records hold: 2 gave block 2 its fourth record in version 3 of the format, 3 brought answer 18, 4 the leap days and answer 19. Where
- * `rahmisve_version() != RAHMISVE_VERSION` the program was built with the header of another archive, and nothing else below may be called.
+ * records hold: 2 gave block 2 its fourth record in version 3 of the format, 3 brought answer 18, 4 the leap days and answer 19, 5 the
+ * watch's set of fill blocks and answer 20. Where `rahmisve_version() != RAHMISVE_VERSION` the program was built with the header of another
+ * archive, and nothing else below may be called.
  *
  * ANSWERS. A function returns its answer: 0, which is accepted, or the number of a refusal, each named once in the list below. Of several
  * grounds the first one decides, in the order that stands with the function. Three functions refuse nothing and return something else:
@@ -49,7 +50,7 @@ extern "C" {
 
 /* ---- Version -------------------------------------------------------------------------------------------------------------------- */
 
-#define RAHMISVE_VERSION 4
+#define RAHMISVE_VERSION 5
 
 /* The version of the archive that is linked. */
 uint32_t rahmisve_version(void);
@@ -83,7 +84,8 @@ uint32_t rahmisve_version(void);
     ANSWER(LONG_LIMIT, 16, "a waiting limit above 3,600,000 ms") \
     ANSWER(OFF_BOUNDARY, 17, "a check word off its 16-bit boundary") /* which no block has: every field is a multiple of 16 bits */ \
     ANSWER(NO_BLOCK, 18, "no start has an acceptable block") \
-    ANSWER(BAD_LEAP_DAYS, 19, "more than 64 leap days, two that do not rise, or one that no year has")
+    ANSWER(BAD_LEAP_DAYS, 19, "more than 64 leap days, two that do not rise, or one that no year has") \
+    ANSWER(BAD_FILL, 20, "a set of fill blocks that the watch cannot have") /* one not below the expected block; any, while idle */
 
 /* RAHMISVE_ANSWER_ACCEPTED, RAHMISVE_ANSWER_NO_HEADER and so on, and how many numbers there are. */
 #define RAHMISVE_CONSTANT(name, number, text) RAHMISVE_ANSWER_##name = number,
@@ -103,8 +105,9 @@ enum { RAHMISVE_ANSWERS(RAHMISVE_CONSTANT) RAHMISVE_ANSWER_NUMBERS };
 #define RAHMISVE_HEADER_SIZE 1    /* bits of a word */
 #define RAHMISVE_HEADER_COUNT 2   /* two bytes, the high one first: C + RAHMISVE_EXTRA_WORDS */
 #define RAHMISVE_HEADER_VERSION 7 /* 0 to 3: 0 and 1 are GOES I to L, 2 is GOES M and N, 3 is GOES O and P */
-#define RAHMISVE_HEADER_VALID 8   /* 1 where data is marked valid; not looked at either */
-#define RAHMISVE_HEADER_TIME 16   /* the tag of the SPS time, RAHMISVE_TAG_BYTES long; not looked at either */
+#define RAHMISVE_HEADER_VALID 8   /* the data valid word, RAHMISVE_VALID or another number; not looked at either, but offered to a watch */
+#define RAHMISVE_HEADER_TIME 16   /* the tag of the SPS time, RAHMISVE_TAG_BYTES long; not looked at either, but offered to a watch */
+#define RAHMISVE_VALID 1          /* what the data valid word says of valid data; with any other number there the block is fill */
 #define RAHMISVE_BLOCK_0_ID 240   /* the id of block 0; those of blocks 1 to 11 are their numbers */
 #define RAHMISVE_EXTRA_WORDS 2    /* what a header's count has beyond C, for the check word */
 
@@ -206,17 +209,26 @@ uint8_t rahmisve_elapsed(const uint8_t *from, size_t from_length, const uint8_t 
 
 /* ---- The scan watch ------------------------------------------------------------------------------------------------------------- */
 
-#define RAHMISVE_WATCH_NUMBERS 10        /* a watch: ten numbers in a row, which the host keeps */
+#define RAHMISVE_WATCH_NUMBERS 11        /* a watch: eleven numbers in a row, which the host keeps */
 #define RAHMISVE_LONGEST_WAIT_MS 3600000 /* the largest waiting limit */
 
-/* Places in a watch. The host may read, copy and store them; a stored watch is for one version, so store RAHMISVE_VERSION beside it. Any
+/* Places in a watch. The host may read, copy and store them; a stored watch is for one version, so store RAHMISVE_VERSION beside it. One of
+ * version 4 has ten numbers, without the set, and is no watch of version 5: begin anew, with the limit that is the last of the ten. Any
  * number may stand in any place: one out of bounds is refused by the offer that would use it. Beginning, and every closing that opens no
- * new scan, leave zeros in the expected block and the last tag. A watch has no clock: only an offer closes a scan, and in silence it stays
- * open. */
+ * new scan, leave zeros in the expected block, the last tag and the set. A watch has no clock: only an offer closes a scan, and in silence
+ * it stays open. */
 #define RAHMISVE_WATCH_OPEN 0     /* 1 where a scan is open, 0 where the watch is idle; any number but 0 counts as open */
 #define RAHMISVE_WATCH_EXPECTED 1 /* the next expected block, 1 to 10; not read while idle */
 #define RAHMISVE_WATCH_LAST 2     /* the last tag, a time of seven numbers (places 2 to 8); not read while idle */
 #define RAHMISVE_WATCH_LIMIT 9    /* the waiting limit in ms, at most RAHMISVE_LONGEST_WAIT_MS */
+#define RAHMISVE_WATCH_FILL 10    /* the fill blocks of the open scan so far, a set of numbers below the expected one; empty while idle */
+
+/* A block is fill where its data valid word is any number but RAHMISVE_VALID. The watch takes it like any other block, in its order and its
+ * time, and notes it. Which blocks of a scan were fill is a set, and a set is one number: bit b, 1 << b, stands for block b, and 0 is the
+ * empty set. So `fill >> 3 & 1` is 1 where block 3 was fill, and 1060, which is 1 << 2 | 1 << 5 | 1 << 10, is blocks 2, 5 and 10.
+ * The watch keeps the set of the open scan, and the offer that closes the scan hands it over with the count of its blocks, whatever closes
+ * it. Of a complete scan the set has any of blocks 0 to 10, the closing block 10 too where that is fill. Any other closing block is none of
+ * the scan that it closes, and not in the set. A closing block 0 that is fill is in the set of the scan that it opens. */
 
 /* The verdict: what an offer did. */
 #define RAHMISVE_VERDICT_REFUSED 0    /* nothing: the answer says why */
@@ -231,19 +243,26 @@ uint8_t rahmisve_elapsed(const uint8_t *from, size_t from_length, const uint8_t 
 /* Begins an idle watch with a waiting limit in ms. Refusal: 16, and the watch is not written. */
 uint8_t rahmisve_watch_begin(uint32_t limit, uint32_t watch[RAHMISVE_WATCH_NUMBERS]);
 
-/* Offers a block, the bytes of its tag and the leap days to count by. `verdict` says what that did. A closing offer of block 0 also opens a
- * new scan, so look at watch[RAHMISVE_WATCH_OPEN]; after any other closing the watch is idle.
+/* Offers a block, its data valid word, the bytes of its tag and the leap days to count by. `verdict` says what that did. A closing offer of
+ * block 0 also opens a new scan, so look at watch[RAHMISVE_WATCH_OPEN]; after any other closing the watch is idle.
+ * `valid` may be any number, header[RAHMISVE_HEADER_VALID] as a rule: every one but RAHMISVE_VALID is fill, 257 too. A host that does not
+ * ask for fill offers RAHMISVE_VALID, and each set is empty. Where the offer closes a scan, `fill` is the set of that scan's fill blocks
+ * and `count` is how many they are, 0 to 11. Everywhere else both are zeros; what the open scan has so far is watch[RAHMISVE_WATCH_FILL].
+ * How much fill makes a complete scan useless, the host decides.
  * Where the offer is refused, and where it is a stray, the watch is only read, and may stand in write-protected memory. Any other offer
  * writes it number by number: threads that share a watch take a lock, and where an interrupt uses it too, interrupts are off meanwhile.
  * A watch keeps no leap days: those of this offer judge and count its last tag as well as the offered one. So lend one list from block 0 to
  * the end of the scan. With one list and one limit throughout, a scan that completes took at most ten times the limit. A last tag with
  * second 60 is bad by a list that does not have its day.
- * Refusals: 16 and 13 for the watch, 19 for the list, 12 for the watch's last tag, then 4 for the block, 12 for its tag; 13 and the first
- * 12 only while a scan is open. With 19 the list is wrong, and the watch may go on: offer the same again with a good list. A watch that is
- * refused itself stays so by the same list, whatever is offered, block 0 too: begin it anew. 12 is for the watch where rahmisve_read_tag
- * accepts the offered tag by that list. */
-uint8_t rahmisve_watch_offer(uint32_t watch[RAHMISVE_WATCH_NUMBERS], uint32_t block, const uint8_t *tag, size_t tag_length,
-                             const uint32_t *leap_days, size_t leap_days_length, uint8_t *verdict);
+ * Refusals: 16, 13 and 20 for the watch, 19 for the list, 12 for the watch's last tag, then 4 for the block, 12 for its tag; 13 and the
+ * first 12 only while a scan is open. 20 is given for a set with the expected block or one above it, which every bit from 1 << 11 on is,
+ * and for an idle watch whose set is not empty. A watch that was begun and then only offered to never has such a set: its numbers came from
+ * elsewhere. With 19 the list is wrong, and the watch may go on: offer the same again with a good list. A watch that is refused itself
+ * stays so by the same list, whatever is offered, block 0 too: begin it anew. 12 is for the watch where rahmisve_read_tag accepts the
+ * offered tag by that list. */
+uint8_t rahmisve_watch_offer(uint32_t watch[RAHMISVE_WATCH_NUMBERS], uint32_t block, uint32_t valid, const uint8_t *tag,
+                             size_t tag_length, const uint32_t *leap_days, size_t leap_days_length, uint8_t *verdict, uint32_t *fill,
+                             uint32_t *count);
 
 /* ---- Recordings ----------------------------------------------------------------------------------------------------------------- */
 

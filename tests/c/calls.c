@@ -95,7 +95,7 @@ static struct {
     size_t count[7];
     int64_t ms[3];
     uint64_t seq[3];
-    uint32_t time[9];
+    uint32_t time[9], fill[5];
     uint8_t byte[11], header[30], copies[5], holds[6], tag[10];
 } at;
 
@@ -894,35 +894,53 @@ static void elapsed(void)
 
 /* ---- the watch ------------------------------------------------------------------------------------------------------------------ */
 
-static uint32_t watch_room[12], *const watch = watch_room + 1;
+static uint32_t watch_room[13], *const watch = watch_room + 1;
 
-static unsigned offered(uint32_t block, const uint8_t *tag, size_t length)
+static unsigned offered(uint32_t block, uint32_t valid, const uint8_t *tag, size_t length)
 {
     fresh();
-    unsigned number = rahmisve_watch_offer(watch, block, tag, length, days, days_length, &at.byte[1]);
+    unsigned number =
+        rahmisve_watch_offer(watch, block, valid, tag, length, days, days_length, &at.byte[1], &at.fill[1], &at.fill[3]);
     IS(at.byte[0] == 0xFF && at.byte[2] == 0xFF && (days_length == 0 || list_is_kept()));
-    IS(watch_room[0] == 0xABCDEF01 && watch_room[11] == 0xABCDEF02);
+    IS(ones(&at.fill[0], 4) && ones(&at.fill[2], 4) && ones(&at.fill[4], 4));
+    IS(watch_room[0] == 0xABCDEF01 && watch_room[12] == 0xABCDEF02);
     return number;
 }
 
-/* An accepted offer, and what the watch holds then. */
-static void goes(uint32_t block, const uint8_t *tag, unsigned verdict, uint32_t open, uint32_t expected, uint32_t limit)
+/* What an offer handed over, a set and its count, and the set that it left. */
+static void fill_is(uint32_t handed, uint32_t count, uint32_t left)
+{
+    IS(at.fill[1] == handed && at.fill[3] == count && watch[RAHMISVE_WATCH_FILL] == left);
+}
+
+/* An accepted offer, and what the watch holds then but for the set. */
+static void takes(uint32_t block, uint32_t valid, const uint8_t *tag, unsigned verdict, uint32_t open, uint32_t expected, uint32_t limit)
 {
     uint32_t time[7] = {0, 0, 0, 0, 0, 0, 0};
     if (open)
         IS(rahmisve_read_tag(tag, 8, days, days_length, time) == 0);
-    IS(offered(block, tag, 8) == 0 && at.byte[1] == verdict);
+    IS(offered(block, valid, tag, 8) == 0 && at.byte[1] == verdict);
     IS(watch[RAHMISVE_WATCH_OPEN] == open && watch[RAHMISVE_WATCH_EXPECTED] == expected && watch[RAHMISVE_WATCH_LIMIT] == limit);
     IS(memcmp(watch + RAHMISVE_WATCH_LAST, time, 28) == 0);
 }
 
-/* An offer that leaves the watch as it is. */
+/* The same where no block is fill. */
+static void goes(uint32_t block, const uint8_t *tag, unsigned verdict, uint32_t open, uint32_t expected, uint32_t limit)
+{
+    takes(block, RAHMISVE_VALID, tag, verdict, open, expected, limit);
+    fill_is(0, 0, 0);
+}
+
+/* An offer that leaves the watch as it is, whether the block is fill or not. */
 static void stays(unsigned number, unsigned verdict, uint32_t block, const uint8_t *tag, size_t length)
 {
-    uint32_t was[10];
+    uint32_t was[RAHMISVE_WATCH_NUMBERS];
     memcpy(was, watch, sizeof was);
-    IS(offered(block, tag, length) == number && at.byte[1] == verdict);
-    IS(memcmp(was, watch, sizeof was) == 0);
+    for (uint32_t valid = 0; valid <= RAHMISVE_VALID; valid++) {
+        IS(offered(block, valid, tag, length) == number && at.byte[1] == verdict);
+        fill_is(0, 0, was[RAHMISVE_WATCH_FILL]);
+        IS(memcmp(was, watch, sizeof was) == 0);
+    }
 }
 
 static void lent(uint32_t open, uint32_t expected, const uint32_t *time, uint32_t limit)
@@ -931,23 +949,24 @@ static void lent(uint32_t open, uint32_t expected, const uint32_t *time, uint32_
     watch[RAHMISVE_WATCH_EXPECTED] = expected;
     memcpy(watch + RAHMISVE_WATCH_LAST, time, 28);
     watch[RAHMISVE_WATCH_LIMIT] = limit;
+    watch[RAHMISVE_WATCH_FILL] = 0;
 }
 
 static void watch_begin(void)
 {
     watch_room[0] = 0xABCDEF01;
-    watch_room[11] = 0xABCDEF02;
-    memset(watch, 0xFF, 40);
+    watch_room[12] = 0xABCDEF02;
+    memset(watch, 0xFF, 44);
     IS(rahmisve_watch_begin(1000000, watch) == 0);
-    IS(zeros(watch, 36) && watch[9] == 1000000);
+    IS(zeros(watch, 36) && watch[9] == 1000000 && watch[10] == 0);
     IS(rahmisve_watch_begin(RAHMISVE_LONGEST_WAIT_MS, watch) == 0 && zeros(watch, 36) && watch[RAHMISVE_WATCH_LIMIT] == 3600000);
-    told("watch_begin: idle, with its limit");
-    memset(watch, 0xEE, 40);
+    told("watch_begin: idle, with its limit, and its set empty");
+    memset(watch, 0xEE, 44);
     IS(rahmisve_watch_begin(RAHMISVE_LONGEST_WAIT_MS + 1, watch) == RAHMISVE_ANSWER_LONG_LIMIT);
-    IS(watch[0] == 0xEEEEEEEE && memcmp(watch, watch + 1, 36) == 0);
+    IS(watch[0] == 0xEEEEEEEE && memcmp(watch, watch + 1, 40) == 0);
     IS(rahmisve_watch_begin(UINT32_MAX, watch) == RAHMISVE_ANSWER_LONG_LIMIT);
-    IS(watch[0] == 0xEEEEEEEE && memcmp(watch, watch + 1, 36) == 0);
-    IS(watch_room[0] == 0xABCDEF01 && watch_room[11] == 0xABCDEF02);
+    IS(watch[0] == 0xEEEEEEEE && memcmp(watch, watch + 1, 40) == 0);
+    IS(watch_room[0] == 0xABCDEF01 && watch_room[12] == 0xABCDEF02);
     told("watch_begin: its refusal leaves the record");
 }
 
@@ -960,7 +979,7 @@ static void watch_offer(void)
     for (uint32_t block = 1; block <= 9; block++)
         goes(block, block < 5 ? day_60 : day_61, RAHMISVE_VERDICT_KEPT, 1, block + 1, 500);
     goes(10, day_61, RAHMISVE_VERDICT_COMPLETE, 0, 0, 500);
-    told("watch_offer: a whole scan, the ten numbers after each offer");
+    told("watch_offer: a whole scan, the eleven numbers after each offer");
     goes(0, day_60, RAHMISVE_VERDICT_OPENED, 1, 1, 500);
     goes(2, day_61, RAHMISVE_VERDICT_BROKEN, 0, 0, 500);
     goes(0, day_61, RAHMISVE_VERDICT_OPENED, 1, 1, 500);
@@ -1057,22 +1076,28 @@ static void scan_over_a_leap_second(void)
     told("watch_offer: the list that is lent now judges and counts the last tag and the offered one");
 }
 
-/* In the order of the refusals: limit and expected block, then the list, then the rest. */
+/* In the order of the refusals: limit, expected block and set, then the list, then the rest. */
 static void offered_by_a_bad_list(void)
 {
     static const uint32_t bad_hour[7] = {2008, 60, 24, 59, 59, 999, 0};
     lent(1, 11, bad_hour, 3600001);
+    watch[RAHMISVE_WATCH_FILL] = 1 << 11;
     stays(RAHMISVE_ANSWER_LONG_LIMIT, 0, 99, day_60, 7);
-    lent(1, 11, bad_hour, 500);
+    watch[RAHMISVE_WATCH_LIMIT] = 500;
     stays(RAHMISVE_ANSWER_NO_RECORD, 0, 99, day_60, 7);
-    lent(1, 3, bad_hour, 500);
+    watch[RAHMISVE_WATCH_EXPECTED] = 3;
+    stays(RAHMISVE_ANSWER_BAD_FILL, 0, 99, day_60, 7);
+    watch[RAHMISVE_WATCH_FILL] = 7;
     stays(RAHMISVE_ANSWER_BAD_LEAP_DAYS, 0, 99, day_60, 7);
     lent(1, 3, marked_time, 500);
     stays(RAHMISVE_ANSWER_BAD_LEAP_DAYS, 0, 99, NULL, 0);
     stays(RAHMISVE_ANSWER_BAD_LEAP_DAYS, 0, 3, marked_tag, 8);
     lent(0, 11, bad_hour, 3600001);
+    watch[RAHMISVE_WATCH_FILL] = 1;
     stays(RAHMISVE_ANSWER_LONG_LIMIT, 0, 99, day_60, 7);
-    lent(0, 11, bad_hour, 500);
+    watch[RAHMISVE_WATCH_LIMIT] = 500;
+    stays(RAHMISVE_ANSWER_BAD_FILL, 0, 99, day_60, 7);
+    watch[RAHMISVE_WATCH_FILL] = 0;
     stays(RAHMISVE_ANSWER_BAD_LEAP_DAYS, 0, 99, day_60, 7);
     stays(RAHMISVE_ANSWER_BAD_LEAP_DAYS, 0, 0, day_60, 8);
     stays(RAHMISVE_ANSWER_BAD_LEAP_DAYS, 0, 5, day_60, 8);
@@ -1081,7 +1106,142 @@ static void offered_by_a_bad_list(void)
 static void offers_by_bad_lists(void)
 {
     with_bad_lists(offered_by_a_bad_list);
-    told("watch_offer: a bad list is refused behind limit and expected block, before all else, by an open watch and by an idle one");
+    told("watch_offer: a bad list is refused behind what the watch is, but for its last tag, and before all else, open or idle");
+}
+
+/* ---- which blocks were fill ----------------------------------------------------------------------------------------------------- */
+
+static const uint32_t last_time[7] = {2008, 60, 23, 59, 59, 999, 0};                /* of day_60, a millisecond before day_61 */
+static const uint8_t too_late[8] = {0x20, 0x08, 0x06, 0x10, 0x00, 0x00, 0x05, 0x00}; /* 501 ms after it */
+
+static uint32_t blocks_in(uint32_t set)
+{
+    uint32_t count = 0;
+    for (int bit = 0; bit < 32; bit++)
+        count += set >> bit & 1;
+    return count;
+}
+
+/* A block, fill or not, by each word that means it: those that a header can have, and those that are one of them where they are cut. */
+static uint32_t word_of(int fill)
+{
+    static const uint32_t words[] = {0, 2, 255, 256, 257, 65536, 65537, 0x80000001, UINT32_MAX};
+    static size_t next;
+    return fill ? words[next++ % (sizeof words / sizeof *words)] : RAHMISVE_VALID;
+}
+
+/* A scan that completes, its fill blocks those of a set. */
+static void scan_with(uint32_t set)
+{
+    for (uint32_t block = 0; block < 10; block++) {
+        unsigned verdict = block == 0 ? RAHMISVE_VERDICT_OPENED : RAHMISVE_VERDICT_KEPT;
+        takes(block, word_of(set >> block & 1), day_61, verdict, 1, block + 1, 500);
+        fill_is(0, 0, set & ((2u << block) - 1));
+    }
+    takes(10, word_of(set >> 10 & 1), day_61, RAHMISVE_VERDICT_COMPLETE, 0, 0, 500);
+    fill_is(set, blocks_in(set), 0);
+}
+
+static void scans_with_fill(void)
+{
+    static const uint32_t words[] = {0, 1, 2, 255, 256, 257, UINT32_MAX};
+    for (size_t i = 0; i < sizeof words / sizeof *words; i++) {
+        uint32_t fill = words[i] != 1;
+        IS(rahmisve_watch_begin(500, watch) == 0);
+        takes(0, words[i], day_61, RAHMISVE_VERDICT_OPENED, 1, 1, 500);
+        fill_is(0, 0, fill);
+        takes(1, words[i], day_61, RAHMISVE_VERDICT_KEPT, 1, 2, 500);
+        fill_is(0, 0, fill * 3);
+        takes(0, words[i], day_61, RAHMISVE_VERDICT_BROKEN, 1, 1, 500);
+        fill_is(fill * 3, fill * 2, fill);
+        lent(1, 10, last_time, 500);
+        takes(10, words[i], day_61, RAHMISVE_VERDICT_COMPLETE, 0, 0, 500);
+        fill_is(fill << 10, fill, 0);
+    }
+    told("watch_offer: every data valid word but 1 is fill, and none is cut");
+    for (uint32_t set = 0; set < 1 << 11 && good; set++)
+        scan_with(set);
+    told("watch_offer: a complete scan hands over its fill blocks, block 10 among them, and their count, whichever they are");
+}
+
+/* A scan that another verdict than complete closes. The closing block is not in its set, and opens the next one's where it is block 0. */
+static void closes(uint32_t expected, uint32_t set, uint32_t block, const uint8_t *tag, unsigned verdict)
+{
+    for (int fill = 0; fill < 2; fill++) {
+        lent(1, expected, last_time, 500);
+        watch[RAHMISVE_WATCH_FILL] = set;
+        takes(block, word_of(fill), tag, verdict, block == 0, block == 0, 500);
+        fill_is(set, blocks_in(set), fill && block == 0);
+    }
+}
+
+static void closings_with_fill(void)
+{
+    for (uint32_t expected = 1; expected <= 10; expected++)
+        for (uint32_t set = 0; set < 1u << expected && good; set++) {
+            closes(expected, set, expected, marked_tag, RAHMISVE_VERDICT_CLOCK_BACK);
+            closes(expected, set, 0, marked_tag, RAHMISVE_VERDICT_CLOCK_BACK);
+            closes(expected, set, expected, too_late, RAHMISVE_VERDICT_LATE);
+            closes(expected, set, 0, too_late, RAHMISVE_VERDICT_LATE);
+            closes(expected, set, 11, day_61, RAHMISVE_VERDICT_BROKEN);
+            closes(expected, set, 0, day_61, RAHMISVE_VERDICT_BROKEN);
+            closes(expected, set, expected % 10 + 1, day_61, RAHMISVE_VERDICT_BROKEN);
+        }
+    told("watch_offer: every other closing hands over a set without its own block, and a block 0 that is fill begins the next one");
+}
+
+/* Each block that is not below the expected one, alone and with all that are. */
+static void sets_out_of_bounds(void)
+{
+    for (uint32_t bit = 0; bit < 32; bit++) {
+        for (uint32_t expected = 1; expected <= 10 && expected <= bit; expected++) {
+            lent(bit, expected, last_time, 500);
+            watch[RAHMISVE_WATCH_FILL] = 1u << bit;
+            stays(RAHMISVE_ANSWER_BAD_FILL, 0, expected, day_61, 8);
+            watch[RAHMISVE_WATCH_FILL] |= (1u << expected) - 1;
+            stays(RAHMISVE_ANSWER_BAD_FILL, 0, 0, day_61, 8);
+        }
+        lent(0, 10, last_time, 500); /* an expected block that is not read */
+        watch[RAHMISVE_WATCH_FILL] = 1u << bit;
+        stays(RAHMISVE_ANSWER_BAD_FILL, 0, 0, day_61, 8);
+        stays(RAHMISVE_ANSWER_BAD_FILL, 0, 5, day_61, 8);
+    }
+    told("watch_offer: a set with the expected block or one above it is refused, and any set of an idle watch");
+}
+
+/* A watch with every ground for a refusal, mended one by one. */
+static void refused_for_the_set(void)
+{
+    static const uint32_t bad_hour[7] = {2008, 60, 24, 59, 59, 999, 0};
+    static const uint32_t no_blocks[] = {0, 11, 256 + 3, UINT32_MAX};
+    lend_none();
+    lent(1, 11, bad_hour, 3600001);
+    watch[RAHMISVE_WATCH_FILL] = UINT32_MAX;
+    stays(RAHMISVE_ANSWER_LONG_LIMIT, 0, 99, NULL, 0);
+    watch[RAHMISVE_WATCH_LIMIT] = 3600000;
+    for (size_t i = 0; i < sizeof no_blocks / sizeof *no_blocks; i++) {
+        watch[RAHMISVE_WATCH_EXPECTED] = no_blocks[i];
+        stays(RAHMISVE_ANSWER_NO_RECORD, 0, 99, NULL, 0);
+    }
+    watch[RAHMISVE_WATCH_EXPECTED] = 3;
+    stays(RAHMISVE_ANSWER_BAD_FILL, 0, 99, NULL, 0);
+    watch[RAHMISVE_WATCH_FILL] = 7;
+    stays(RAHMISVE_ANSWER_BAD_TAG, 0, 99, NULL, 0);
+    memcpy(watch + RAHMISVE_WATCH_LAST, last_time, 28);
+    stays(RAHMISVE_ANSWER_UNKNOWN_BLOCK, 0, 99, NULL, 0);
+    stays(RAHMISVE_ANSWER_BAD_TAG, 0, 3, NULL, 0);
+    takes(3, 0, day_61, RAHMISVE_VERDICT_KEPT, 1, 4, 3600000);
+    fill_is(0, 0, 15);
+    lent(0, 99, bad_hour, 3600001);
+    watch[RAHMISVE_WATCH_FILL] = 1;
+    stays(RAHMISVE_ANSWER_LONG_LIMIT, 0, 99, NULL, 0);
+    watch[RAHMISVE_WATCH_LIMIT] = 500;
+    stays(RAHMISVE_ANSWER_BAD_FILL, 0, 99, NULL, 0);
+    watch[RAHMISVE_WATCH_FILL] = 0;
+    stays(RAHMISVE_ANSWER_UNKNOWN_BLOCK, 0, 99, NULL, 0);
+    stays(RAHMISVE_ANSWER_BAD_TAG, 0, 0, NULL, 0);
+    stays(0, RAHMISVE_VERDICT_STRAY, 10, day_61, 8);
+    told("watch_offer: the set is judged behind the expected block and before the last tag, and refusals and strays leave it");
 }
 
 /* ---- recordings ----------------------------------------------------------------------------------------------------------------- */
@@ -1475,6 +1635,10 @@ int main(void)
     watch_offer();
     scan_over_a_leap_second();
     offers_by_bad_lists();
+    scans_with_fill();
+    closings_with_fill();
+    sets_out_of_bounds();
+    refused_for_the_set();
     next_field();
     line();
     texts();

@@ -1,9 +1,9 @@
 /* edges: words out of fields and into fields that end where the memory ends, or begin where it begins, and the words do so too; then what
- * salvage is lent, in the same places, and leap days with the tags that they are lent with. No byte is read or written beyond, or the
- * program ends by a fault. Prints a line `ok - ..` or `not ok - ..` for each size of a word and each way, for each kind of input, and for
- * the lists.
- * edges taken | put | words | front | input | recording | entries | scratch | days: a call that is lent a byte, a word, an entry or a day
- * more than there is, and therefore has to end by a fault. */
+ * salvage is lent, in the same places, and leap days with the tags and the watch that they are lent with. No byte is read or written
+ * beyond, or the program ends by a fault. Prints a line `ok - ..` or `not ok - ..` for each size of a word and each way, for each kind of
+ * input, and for the lists.
+ * edges taken | put | words | front | input | recording | entries | scratch | days | numbers: a call that is lent a byte, a word, an entry,
+ * a day or a number of a watch more than there is, and therefore has to end by a fault. */
 #define _DEFAULT_SOURCE
 #include <stdio.h>
 #include <string.h>
@@ -251,7 +251,25 @@ static int all_stopped(unsigned words)
 
 /* ---- leap days */
 
-static size_t days_beyond; /* how many of them lie behind their memory */
+static size_t days_beyond, numbers_beyond; /* how many of them, and of the watch's numbers, lie behind their memory */
+
+/* Whether this is the answer to two offers of a block 0 that is fill: the first opens a scan, the second closes it and hands over its set
+ * and count. These two places stand at opposite ends of memory, and the watch stands at an end. */
+static int offered(unsigned answer, int end, const uint8_t *tag, const uint32_t *list, size_t count, const uint32_t *last)
+{
+    uint32_t *watch = part_of(reports, end, (RAHMISVE_WATCH_NUMBERS - numbers_beyond) * sizeof *watch);
+    uint32_t *fill = part_of(recordings, end, sizeof *fill), *blocks = part_of(recordings, !end, sizeof *blocks);
+    uint8_t verdict;
+    int good = rahmisve_watch_begin(0, watch) == RAHMISVE_ANSWER_ACCEPTED;
+    for (uint32_t i = 0; i < 2; i++) {
+        good &= rahmisve_watch_offer(watch, 0, 0, tag, RAHMISVE_TAG_BYTES, list, count, &verdict, fill, blocks) == answer;
+        if (answer != RAHMISVE_ANSWER_ACCEPTED)
+            return good & (*fill == 0 && *blocks == 0);
+        good &= verdict == (i ? RAHMISVE_VERDICT_BROKEN : RAHMISVE_VERDICT_OPENED) && *fill == i && *blocks == i;
+        good &= watch[RAHMISVE_WATCH_FILL] == 1;
+    }
+    return good & (memcmp(watch + RAHMISVE_WATCH_LAST, last, RAHMISVE_TIME_NUMBERS * sizeof *last) == 0);
+}
 
 /* Whether this is the answer to each call with a tag by so many leap days. The tag is of the last second of the last one, and all that is
  * lent stands at an end of memory. */
@@ -259,8 +277,7 @@ static int with_days(unsigned answer, int end, uint32_t count)
 {
     uint32_t *list = part_of(lists, end, (count - days_beyond) * sizeof *list);
     uint32_t *time = part_of(rooms, end, RAHMISVE_TIME_NUMBERS * sizeof *time);
-    uint32_t *watch = part_of(reports, end, RAHMISVE_WATCH_NUMBERS * sizeof *watch);
-    uint8_t *tag = bytes_at(end, RAHMISVE_TAG_BYTES), verdict;
+    uint8_t *tag = bytes_at(end, RAHMISVE_TAG_BYTES);
     const uint32_t last[RAHMISVE_TIME_NUMBERS] = {1949 + count, 181, 23, 59, count ? 60 : 59, 999, 1};
     int64_t ms;
     for (uint32_t i = 0; i < count - days_beyond; i++)
@@ -269,12 +286,8 @@ static int with_days(unsigned answer, int end, uint32_t count)
     int good = rahmisve_write_tag(time, list, count, tag) == answer;
     good &= rahmisve_read_tag(tag, RAHMISVE_TAG_BYTES, list, count, time) == answer;
     good &= rahmisve_elapsed(tag, RAHMISVE_TAG_BYTES, tag, RAHMISVE_TAG_BYTES, list, count, &ms) == answer && ms == 0;
-    good &= rahmisve_watch_begin(0, watch) == RAHMISVE_ANSWER_ACCEPTED;
-    good &= rahmisve_watch_offer(watch, 0, tag, RAHMISVE_TAG_BYTES, list, count, &verdict) == answer;
-    if (answer != RAHMISVE_ANSWER_ACCEPTED)
-        return good;
-    good &= verdict == RAHMISVE_VERDICT_OPENED && memcmp(watch + RAHMISVE_WATCH_LAST, last, sizeof last) == 0;
-    return good & (memcmp(time, last, sizeof last) == 0);
+    good &= offered(answer, end, tag, list, count, last);
+    return good & (answer != RAHMISVE_ANSWER_ACCEPTED || memcmp(time, last, sizeof last) == 0);
 }
 
 static void all_lists(void)
@@ -283,14 +296,15 @@ static void all_lists(void)
                with_days(RAHMISVE_ANSWER_BAD_LEAP_DAYS, 0, RAHMISVE_MOST_LEAP_DAYS + 1);
     for (uint32_t count = 0; count <= RAHMISVE_MOST_LEAP_DAYS; count++)
         good &= with_days(RAHMISVE_ANSWER_ACCEPTED, 1, count) & with_days(RAHMISVE_ANSWER_ACCEPTED, 0, count);
-    printf("%s - leap days, of every count, and their tags, where memory ends, and where it begins\n", good ? "ok" : "not ok");
+    printf("%s - leap days, of every count, their tags and a watch, where memory ends, and where it begins\n", good ? "ok" : "not ok");
     all_good &= good;
 }
 
 /* ---- more than there is */
 
 /* Whether it went well, which it cannot: words for a byte that is behind the memory or in front of it, or one word more than there are; or
- * salvage with the last of what it uses, a byte, a number or a word, behind the memory; or a tag with the last of its leap days there. */
+ * salvage with the last of what it uses, a byte, a number or a word, behind the memory; or a tag with the last of its leap days there; or a
+ * watch of ten numbers, as version 4 had it. */
 static int lent_too_much(char what)
 {
     const uint16_t *words = words_at(1, 20);
@@ -315,6 +329,9 @@ static int lent_too_much(char what)
         return salvaged(RAHMISVE_ANSWER_ACCEPTED, 1, 0, make_block(RAHMISVE_MOST_WORDS), 0);
     case 'd':
         days_beyond = 1;
+        return with_days(RAHMISVE_ANSWER_ACCEPTED, 1, 3);
+    case 'n':
+        numbers_beyond = 1;
         return with_days(RAHMISVE_ANSWER_ACCEPTED, 1, 3);
     default:
         return rahmisve_put_words(words, 20, 10, bytes_at(0, 25) - 1, 25) == RAHMISVE_ANSWER_ACCEPTED;

@@ -10,8 +10,8 @@
 
 enum { PAGE_BYTES = 65536 }; /* a multiple of any machine's page */
 
-static const uint32_t idle[RAHMISVE_WATCH_NUMBERS] = {0, 99, 1, 2, 3, 4, 5, 6, 7, 500};
-static const uint32_t open[RAHMISVE_WATCH_NUMBERS] = {1, 3, 2008, 60, 23, 59, 59, 999, 0, 500};
+static const uint32_t idle[RAHMISVE_WATCH_NUMBERS] = {0, 99, 1, 2, 3, 4, 5, 6, 7, 500, 0};
+static const uint32_t open[RAHMISVE_WATCH_NUMBERS] = {1, 3, 2008, 60, 23, 59, 59, 999, 0, 500, 5}; /* blocks 0 and 2 were fill */
 static const uint8_t tag[RAHMISVE_TAG_BYTES] = {0x20, 0x08, 0x06, 0x10, 0x00, 0x00, 0x00, 0x00};
 static const uint32_t leap_days[] = {2008366, 2008366}; /* one is a good list, both are none */
 
@@ -29,10 +29,13 @@ static int hold(const uint32_t *numbers, size_t place, uint32_t number)
     return mprotect(watch, PAGE_BYTES, PROT_READ) == 0;
 }
 
+/* Whether an offer, of a block that is fill, comes out so, and hands over nothing. */
 static int offered(unsigned answer, unsigned verdict, uint32_t block, size_t tag_length)
 {
     uint8_t did;
-    return rahmisve_watch_offer(watch, block, tag, tag_length, leap_days, days, &did) == answer && did == verdict;
+    uint32_t fill, count;
+    return rahmisve_watch_offer(watch, block, 0, tag, tag_length, leap_days, days, &did, &fill, &count) == answer && did == verdict &&
+           fill == 0 && count == 0;
 }
 
 static void told(int good, const char *what)
@@ -54,6 +57,10 @@ static void not_written(void)
            offered(RAHMISVE_ANSWER_LONG_LIMIT, RAHMISVE_VERDICT_REFUSED, 3, RAHMISVE_TAG_BYTES);
     good = good && hold(open, RAHMISVE_WATCH_EXPECTED, 11) &&
            offered(RAHMISVE_ANSWER_NO_RECORD, RAHMISVE_VERDICT_REFUSED, 3, RAHMISVE_TAG_BYTES);
+    good = good && hold(open, RAHMISVE_WATCH_FILL, 8) &&
+           offered(RAHMISVE_ANSWER_BAD_FILL, RAHMISVE_VERDICT_REFUSED, 3, RAHMISVE_TAG_BYTES);
+    good = good && hold(idle, RAHMISVE_WATCH_FILL, 1) &&
+           offered(RAHMISVE_ANSWER_BAD_FILL, RAHMISVE_VERDICT_REFUSED, 0, RAHMISVE_TAG_BYTES);
     good = good && hold(open, RAHMISVE_WATCH_LAST + RAHMISVE_TIME_HOUR, 24) &&
            offered(RAHMISVE_ANSWER_BAD_TAG, RAHMISVE_VERDICT_REFUSED, 3, RAHMISVE_TAG_BYTES);
     told(good, "an offer refused for the watch");

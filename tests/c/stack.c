@@ -11,7 +11,7 @@ static uint8_t header[RAHMISVE_HEADER_BYTES], common[RAHMISVE_HEADER_BYTES], cop
 static uint8_t one[4], text[RAHMISVE_LINE_BYTES], holds[RAHMISVE_IMAGER_MARKS], tag[RAHMISVE_TAG_BYTES], field[RAHMISVE_MOST_BYTES];
 static uint8_t recording[RAHMISVE_SALVAGE_BYTES(sizeof block)];
 static uint16_t words[RAHMISVE_MOST_WORDS];
-static uint32_t time[RAHMISVE_TIME_NUMBERS], watch[RAHMISVE_WATCH_NUMBERS], days[RAHMISVE_MOST_LEAP_DAYS];
+static uint32_t time[RAHMISVE_TIME_NUMBERS], watch[RAHMISVE_WATCH_NUMBERS], days[RAHMISVE_MOST_LEAP_DAYS], fill[2];
 static size_t bytes, count[3], report[RAHMISVE_SALVAGE_ENTRIES(sizeof block)][RAHMISVE_ENTRY_NUMBERS];
 static uint64_t seq;
 static int64_t ms;
@@ -29,9 +29,9 @@ static uint8_t write_tag(void) { return rahmisve_write_tag(time, days, RAHMISVE_
 static uint8_t read_tag(void) { return rahmisve_read_tag(tag, sizeof tag, days, RAHMISVE_MOST_LEAP_DAYS, time); }
 static uint8_t elapsed(void) { return rahmisve_elapsed(tag, sizeof tag, tag, sizeof tag, days, RAHMISVE_MOST_LEAP_DAYS, &ms); }
 static uint8_t watch_begin(void) { return rahmisve_watch_begin(500, watch); }
-static uint8_t watch_offer(void)
+static uint8_t watch_offer(void) /* the first opens a scan; each one behind it closes that, hands a set over and opens the next */
 {
-    return rahmisve_watch_offer(watch, watch[RAHMISVE_WATCH_EXPECTED], tag, sizeof tag, days, RAHMISVE_MOST_LEAP_DAYS, one);
+    return rahmisve_watch_offer(watch, 0, 0, tag, sizeof tag, days, RAHMISVE_MOST_LEAP_DAYS, one, fill, fill + 1);
 }
 static uint8_t next_field(void) { return rahmisve_next_field(block, bytes, 0, one, count, count + 1) == RAHMISVE_FOUND_END; }
 static uint8_t line(void) { return rahmisve_line(0, 1, block, bytes, words, RAHMISVE_MOST_WORDS, &seq, one, one + 1, count); }
