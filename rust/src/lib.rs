@@ -53,7 +53,7 @@ pub use refusal::{Refusal, Unlisted};
 pub use salvage::{salvage, salvage_bytes, salvage_entries, Entry, Piece, Pieces, Salvaged};
 pub use time::{elapsed, read_tag, write_tag, Time};
 pub use version::{check_version, version, OtherVersion, VERSION};
-pub use watch::{Verdict, Watch};
+pub use watch::{Fill, Verdict, Watch};
 pub use words::{check_word, put_words, take_words};
 
 /// Bytes of a header: the first 28 of a copy, without its check word.
@@ -83,7 +83,7 @@ pub const SOUNDER_MARKS: usize = 2;
 /// Numbers of a time.
 pub const TIME_NUMBERS: usize = 7;
 /// Numbers of a watch.
-pub const WATCH_NUMBERS: usize = 10;
+pub const WATCH_NUMBERS: usize = 11;
 /// The largest waiting limit of a watch, in ms.
 pub const LONGEST_WAIT_MS: u32 = 3_600_000;
 /// Bytes of a field of a recording in front of its body: the tag, and the body's length, high byte first.
@@ -105,10 +105,12 @@ pub const HEADER_SIZE: usize = 1;
 pub const HEADER_COUNT: usize = 2;
 /// Where a header has the version, 0 to 3.
 pub const HEADER_VERSION: usize = 7;
-/// Where a header says whether the data is valid.
+/// Where a header has the data valid word: [`VALID`], or another number where the block is fill.
 pub const HEADER_VALID: usize = 8;
 /// Where a header has the tag of the SPS time, of [`TAG_BYTES`].
 pub const HEADER_TIME: usize = 16;
+/// What the data valid word says of valid data.
+pub const VALID: u8 = 1;
 /// The id of block 0.
 pub const BLOCK_0_ID: u8 = 240;
 /// What a header counts more than the words of the block.

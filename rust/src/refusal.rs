@@ -32,7 +32,7 @@ macro_rules! refusals {
             /// ```
             /// use rahmisve::Refusal;
             /// assert_eq!(Refusal::from_number(10), Some(Refusal::CheckDisagrees));
-            /// assert_eq!((Refusal::from_number(0), Refusal::from_number(20)), (None, None));
+            /// assert_eq!((Refusal::from_number(0), Refusal::from_number(21)), (None, None));
             /// ```
             #[must_use]
             pub const fn from_number(number: u8) -> Option<Refusal> {
@@ -97,6 +97,8 @@ refusals! {
     OffBoundary, 17, "a check word off its 16-bit boundary";
     NoBlock, 18, "no start has an acceptable block";
     BadLeapDays, 19, "more than 64 leap days, two that do not rise, or one that no year has";
+    /// In an open watch the expected block or one above it, in an idle one any.
+    BadFill, 20, "a set of fill blocks that the watch cannot have";
 }
 
 impl fmt::Display for Refusal {
@@ -113,7 +115,7 @@ mod tests {
 
     #[test]
     fn a_number_without_a_name_is_kept() {
-        assert_eq!((Refusal::of(20).number(), Refusal::of(255).number()), (20, 255));
-        assert_eq!(Refusal::of(19), Refusal::BadLeapDays);
+        assert_eq!((Refusal::of(21).number(), Refusal::of(255).number()), (21, 255));
+        assert_eq!(Refusal::of(20), Refusal::BadFill);
     }
 }

@@ -4,6 +4,8 @@ use rahmisve::*;
 
 const TAG: [u8; 8] = [0x20, 0x08, 0x06, 0x02, 0x35, 0x95, 0x99, 0x99];
 const NEXT: [u8; 8] = [0x20, 0x08, 0x06, 0x10, 0, 0, 0, 0];
+const VALID_WORD: u32 = VALID as u32;
+const NO_FILL: Fill = Fill { blocks: 0, count: 0 };
 
 fn header(id: u8, size: u8, words: u16, version: u8) -> Header {
     let mut h: Header = core::array::from_fn(|i| 0x80 + 3 * i as u8);
@@ -236,13 +238,14 @@ fn bad_lists() -> Vec<Vec<LeapDay>> {
 fn leap_days_are_judged_first() {
     let mut idle = Watch::begin(500).expect("a limit of half a second");
     let mut open = idle;
-    open.offer(0, &TAG, &[]).expect("block 0 opens");
+    open.offer(0, VALID_WORD, &TAG, &[]).expect("block 0 opens");
     let changed = |place: usize, number| {
         let mut numbers = open.numbers();
         numbers[place] = number;
         Watch::of(numbers)
     };
     let (mut long_limit, mut no_record, mut bad_last) = (changed(9, 3_600_001), changed(1, 11), changed(4, 24));
+    let mut bad_fill = changed(10, 1 << 1);
     for list in bad_lists() {
         let refused = Refusal::BadLeapDays;
         for tag in [&TAG[..], &TAG[1..], &[], &[0xFF; 8]] {
@@ -251,7 +254,7 @@ fn leap_days_are_judged_first() {
             for block in [0, 1, 12] {
                 let was = (idle, open);
                 assert_eq!(
-                    (idle.offer(block, tag, &list), open.offer(block, tag, &list)),
+                    (idle.offer(block, VALID_WORD, tag, &list), open.offer(block, VALID_WORD, tag, &list)),
                     (Err(refused), Err(refused))
                 );
                 assert_eq!((idle, open), was);
@@ -259,10 +262,11 @@ fn leap_days_are_judged_first() {
         }
         assert_eq!(write_tag(&LEAP, &list), Err(refused));
         assert_eq!(write_tag(&Time::default(), &list), Err(refused));
-        assert_eq!(long_limit.offer(12, &[], &list), Err(Refusal::LongLimit));
-        assert_eq!(no_record.offer(12, &[], &list), Err(Refusal::NoRecord));
-        assert_eq!(bad_last.offer(12, &[], &list), Err(refused));
-        assert_eq!(bad_last.offer(12, &[], &LISTED), Err(Refusal::BadTag));
+        assert_eq!(long_limit.offer(12, VALID_WORD, &[], &list), Err(Refusal::LongLimit));
+        assert_eq!(no_record.offer(12, VALID_WORD, &[], &list), Err(Refusal::NoRecord));
+        assert_eq!(bad_fill.offer(12, VALID_WORD, &[], &list), Err(Refusal::BadFill));
+        assert_eq!(bad_last.offer(12, VALID_WORD, &[], &list), Err(refused));
+        assert_eq!(bad_last.offer(12, VALID_WORD, &[], &LISTED), Err(Refusal::BadTag));
     }
 }
 
@@ -286,13 +290,13 @@ fn a_scan_over_a_leap_second() {
         let tag = write_tag(time, &LISTED).expect("a good time");
         let wanted = match block {
             0 => Verdict::Opened,
-            10 => Verdict::Complete,
+            10 => Verdict::Complete(NO_FILL),
             _ => Verdict::Kept,
         };
         if time.second == 60 {
-            assert_eq!(watch.offer(block, &tag, &[]), Err(Refusal::BadTag), "second 60 without its day");
+            assert_eq!(watch.offer(block, VALID_WORD, &tag, &[]), Err(Refusal::BadTag), "second 60 without its day");
         }
-        assert_eq!(watch.offer(block, &tag, &LISTED), Ok(wanted));
+        assert_eq!(watch.offer(block, VALID_WORD, &tag, &LISTED), Ok(wanted));
         assert_eq!(watch.last(), (block < 10).then_some(*time));
     }
 
@@ -301,48 +305,148 @@ fn a_scan_over_a_leap_second() {
     let mut numbers = watch.numbers();
     numbers[..9].copy_from_slice(&[1, 5, 2016, 366, 23, 59, 60, 800, 0]);
     watch = Watch::of(numbers);
-    assert_eq!(watch.offer(5, &after, &LISTED[..2]), Err(Refusal::BadTag));
-    assert_eq!(watch.offer(5, &after, &LISTED), Ok(Verdict::Kept));
+    assert_eq!(watch.offer(5, VALID_WORD, &after, &LISTED[..2]), Err(Refusal::BadTag));
+    assert_eq!(watch.offer(5, VALID_WORD, &after, &LISTED), Ok(Verdict::Kept));
     numbers[6] = 59;
     watch = Watch::of(numbers);
-    assert_eq!(watch.offer(5, &after, &LISTED), Ok(Verdict::Late));
+    assert_eq!(watch.offer(5, VALID_WORD, &after, &LISTED), Ok(Verdict::Late(NO_FILL)));
     watch = Watch::of(numbers);
-    assert_eq!(watch.offer(5, &after, &[]), Ok(Verdict::Kept));
+    assert_eq!(watch.offer(5, VALID_WORD, &after, &[]), Ok(Verdict::Kept));
 }
 
 #[test]
 fn a_scan_under_watch() {
     let mut watch = Watch::begin(500).expect("a limit of half a second");
     assert_eq!(Watch::begin(LONGEST_WAIT_MS + 1), Err(Refusal::LongLimit));
-    assert_eq!(watch.offer(4, &TAG, &[]), Ok(Verdict::Stray));
+    assert_eq!(watch.offer(4, VALID_WORD, &TAG, &[]), Ok(Verdict::Stray));
     assert_eq!((watch.is_open(), watch.expected(), watch.last()), (false, None, None));
-    assert_eq!(watch.offer(0, &TAG, &[]), Ok(Verdict::Opened));
+    assert_eq!(watch.offer(0, VALID_WORD, &TAG, &[]), Ok(Verdict::Opened));
     for block in 1..10 {
-        assert_eq!(watch.offer(block, &NEXT, &[]), Ok(Verdict::Kept));
+        assert_eq!(watch.offer(block, VALID_WORD, &NEXT, &[]), Ok(Verdict::Kept));
         assert_eq!(watch.expected(), Some(block + 1));
     }
     assert_eq!(watch.last(), Some(read_tag(&NEXT, &[]).expect("a good tag")));
     assert_eq!(watch.limit(), 500);
     let kept = Watch::of(watch.numbers());
-    assert_eq!(watch.offer(256 + 10, &NEXT, &[]), Err(Refusal::UnknownBlock));
-    assert_eq!(watch.offer(10, &NEXT[1..], &[]), Err(Refusal::BadTag));
+    assert_eq!(watch.offer(256 + 10, VALID_WORD, &NEXT, &[]), Err(Refusal::UnknownBlock));
+    assert_eq!(watch.offer(10, VALID_WORD, &NEXT[1..], &[]), Err(Refusal::BadTag));
     assert_eq!(watch, kept);
-    assert_eq!(watch.offer(10, &NEXT, &[]), Ok(Verdict::Complete));
+    assert_eq!(watch.offer(10, VALID_WORD, &NEXT, &[]), Ok(Verdict::Complete(NO_FILL)));
     assert_eq!(watch.numbers(), Watch::begin(500).expect("idle").numbers());
 
     watch = kept;
-    assert_eq!(watch.offer(10, &TAG, &[]), Ok(Verdict::ClockBack));
+    assert_eq!(watch.offer(10, VALID_WORD, &TAG, &[]), Ok(Verdict::ClockBack(NO_FILL)));
     watch = kept;
-    assert_eq!(watch.offer(0, &NEXT, &[]), Ok(Verdict::Broken));
+    assert_eq!(watch.offer(0, VALID_WORD, &NEXT, &[]), Ok(Verdict::Broken(NO_FILL)));
     assert_eq!(watch.expected(), Some(1));
     watch = kept;
-    assert_eq!((watch.offer(11, &NEXT, &[]), watch.is_open()), (Ok(Verdict::Broken), false));
+    assert_eq!((watch.offer(11, VALID_WORD, &NEXT, &[]), watch.is_open()), (Ok(Verdict::Broken(NO_FILL)), false));
     let late = [0x20, 0x08, 0x06, 0x10, 0, 0, 0x05, 0x01];
     watch = kept;
-    assert_eq!(watch.offer(10, &late, &[]), Ok(Verdict::Late));
+    assert_eq!(watch.offer(10, VALID_WORD, &late, &[]), Ok(Verdict::Late(NO_FILL)));
     let mut numbers = kept.numbers();
     numbers[1] = 256 + 10;
-    assert_eq!(Watch::of(numbers).offer(10, &NEXT, &[]), Err(Refusal::NoRecord));
+    assert_eq!(Watch::of(numbers).offer(10, VALID_WORD, &NEXT, &[]), Err(Refusal::NoRecord));
+}
+
+/// The blocks of a set.
+fn fill(blocks: u32) -> Fill {
+    Fill { blocks, count: blocks.count_ones() }
+}
+
+/// A watch with a limit of half a second, whose last tag is `TAG`.
+fn open_watch(expected: u32, fill: u32) -> Watch {
+    Watch::of([1, expected, 2008, 60, 23, 59, 59, 999, 0, 500, fill])
+}
+
+#[test]
+fn fill_by_its_word() {
+    for (word, is_fill) in [(0, 1), (1, 0), (2, 1), (255, 1), (256, 1), (257, 1), (65_537, 1), (u32::MAX, 1)] {
+        let mut watch = Watch::begin(500).expect("a limit of half a second");
+        assert_eq!((watch.offer(0, word, &TAG, &[]), watch.fill()), (Ok(Verdict::Opened), is_fill), "{word}");
+        assert_eq!((watch.offer(1, word, &TAG, &[]), watch.fill()), (Ok(Verdict::Kept), is_fill * 3));
+        assert_eq!(watch.offer(0, word, &TAG, &[]), Ok(Verdict::Broken(fill(is_fill * 3))));
+        assert_eq!(watch.fill(), is_fill, "a block 0 that closes is in the scan that it opens");
+        assert_eq!(open_watch(10, 0).offer(10, word, &NEXT, &[]), Ok(Verdict::Complete(fill(is_fill << 10))));
+    }
+}
+
+#[test]
+fn scans_with_every_set_of_fill_blocks() {
+    let mut watch = Watch::begin(500).expect("a limit of half a second");
+    for blocks in 0..1 << 11 {
+        for block in 0..=10 {
+            let valid = if blocks >> block & 1 == 1 { 0 } else { VALID_WORD };
+            let wanted = match block {
+                0 => Verdict::Opened,
+                10 => Verdict::Complete(fill(blocks)),
+                _ => Verdict::Kept,
+            };
+            assert_eq!(watch.offer(block, valid, &TAG, &[]), Ok(wanted), "{blocks:#b}");
+            let so_far = if block == 10 { 0 } else { blocks & ((2 << block) - 1) };
+            assert_eq!(watch.fill(), so_far);
+        }
+    }
+}
+
+#[test]
+fn every_other_closing_leaves_its_block_out() {
+    let late = [0x20, 0x08, 0x06, 0x10, 0, 0, 0x05, 0];
+    let back = [0x20, 0x08, 0x06, 0x02, 0x35, 0x95, 0x99, 0x98];
+    for (expected, blocks) in [(1, 0), (1, 1), (6, 0b10_1101), (10, 0b11_1111_1111), (10, 0b10_0000_0000)] {
+        for word in [0, VALID_WORD] {
+            let closed = fill(blocks);
+            let closings = [
+                (expected, &back, Verdict::ClockBack(closed)),
+                (0, &back, Verdict::ClockBack(closed)),
+                (expected, &late, Verdict::Late(closed)),
+                (0, &late, Verdict::Late(closed)),
+                (11, &NEXT, Verdict::Broken(closed)),
+                (0, &NEXT, Verdict::Broken(closed)),
+            ];
+            for (block, tag, verdict) in closings {
+                let mut watch = open_watch(expected, blocks);
+                assert_eq!(watch.offer(block, word, tag, &[]), Ok(verdict));
+                assert_eq!(watch.fill(), u32::from(block == 0 && word == 0));
+            }
+        }
+    }
+}
+
+#[test]
+fn sets_that_a_watch_cannot_have() {
+    for bit in 0..32 {
+        let idle = [0, 10, 2008, 60, 23, 59, 59, 999, 0, 500, 1 << bit];
+        for block in [0, 5] {
+            let mut watch = Watch::of(idle);
+            assert_eq!(watch.offer(block, 0, &NEXT, &[]), Err(Refusal::BadFill), "bit {bit} of an idle watch");
+            assert_eq!(watch.numbers(), idle);
+        }
+        for expected in 1..=10 {
+            let mut watch = open_watch(expected, 1 << bit);
+            let was = watch;
+            let answer = watch.offer(11, 0, &NEXT, &[]);
+            if bit < expected {
+                assert_eq!(answer, Ok(Verdict::Broken(fill(1 << bit))));
+            } else {
+                assert_eq!((answer, watch), (Err(Refusal::BadFill), was), "bit {bit}, and {expected} is expected");
+            }
+        }
+    }
+    // behind the expected block, before the last tag and what is offered
+    assert_eq!(open_watch(11, 1 << 11).offer(12, 0, &[], &[]), Err(Refusal::NoRecord));
+    let mut numbers = open_watch(3, 1 << 3).numbers();
+    numbers[4] = 24;
+    assert_eq!(Watch::of(numbers).offer(12, 0, &[], &[]), Err(Refusal::BadFill));
+    numbers[10] = 0b111;
+    assert_eq!(Watch::of(numbers).offer(12, 0, &[], &[]), Err(Refusal::BadTag));
+}
+
+#[test]
+fn the_blocks_of_a_set() {
+    assert!((0..100).filter(|block| fill(0b100_0010_0101).has(*block)).eq([0, 2, 5, 10]));
+    assert_eq!([0, 31, 32, 64, u32::MAX].map(|block| fill(u32::MAX).has(block)), [true, true, false, false, false]);
+    assert!(!(0..100).any(|block| NO_FILL.has(block)));
 }
 
 #[test]
@@ -388,7 +492,7 @@ fn a_refusal_says_why() {
     assert_eq!(boxed.to_string(), format!("refusal 12: {text}"));
     for number in 0..=255 {
         let named = Refusal::from_number(number);
-        assert_eq!(named.map(Refusal::number), (1..=19).contains(&number).then_some(number));
+        assert_eq!(named.map(Refusal::number), (1..=20).contains(&number).then_some(number));
     }
 }
 

@@ -95,16 +95,19 @@ extern "C" {
         ms: *mut i64,
     ) -> u8;
     /// Begins an idle watch.
-    pub fn rahmisve_watch_begin(limit: u32, watch: *mut [u32; 10]) -> u8;
-    /// Offers a block and its tag to a watch.
+    pub fn rahmisve_watch_begin(limit: u32, watch: *mut [u32; 11]) -> u8;
+    /// Offers a block, its data valid word and its tag to a watch.
     pub fn rahmisve_watch_offer(
-        watch: *mut [u32; 10],
+        watch: *mut [u32; 11],
         block: u32,
+        valid: u32,
         tag: *const u8,
         tag_length: usize,
         leap_days: *const u32,
         leap_days_length: usize,
         verdict: *mut u8,
+        fill: *mut u32,
+        count: *mut u32,
     ) -> u8;
     /// What stands in a recording from a byte on: returns what it found.
     pub fn rahmisve_next_field(
