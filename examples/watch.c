@@ -1,6 +1,7 @@
 /* watch [FILE]: offers the blocks of a recording, of the file or of standard input, to a scan watch, and prints what opens a scan and what
- * closes it: the field, its block and SPS time, the verdict. A field that is refused is named with the reason. A worked example of
- * recordings and of the watch; it has memory for one field, and the recording may have any length. */
+ * closes it: the field, its block and SPS time, the verdict, and of a closed scan how many of its blocks were fill. A field that is refused
+ * is named with the reason. A worked example of recordings and of the watch; it has memory for one field, and the recording may have any
+ * length. */
 #include <stdio.h>
 #include <string.h>
 
@@ -59,6 +60,15 @@ static void print_time(const uint8_t *tag)
            (unsigned)time[RAHMISVE_TIME_SECOND], (unsigned)time[RAHMISVE_TIME_MILLISECOND]);
 }
 
+/* What an accepted offer did; `count` blocks of a scan that it closed were fill. A block 0 that closes a scan opens the next one. */
+static void print_verdict(uint8_t verdict, uint32_t count, const uint32_t *watch)
+{
+    printf(": %s", verdicts[verdict]);
+    if (verdict != RAHMISVE_VERDICT_OPENED)
+        printf(", %u fill%s", (unsigned)count, watch[RAHMISVE_WATCH_OPEN] ? ", opened" : "");
+    printf("\n");
+}
+
 /* Reads the block of a field, offers it, and prints what is to be said of it. */
 static void offer(unsigned long field, const uint8_t *body, size_t length, uint32_t *watch)
 {
@@ -66,19 +76,20 @@ static void offer(unsigned long field, const uint8_t *body, size_t length, uint3
     uint8_t header[RAHMISVE_HEADER_BYTES], copies[RAHMISVE_COPY_MARKS], block, version, size, records, verdict;
     const uint8_t *tag = header + RAHMISVE_HEADER_TIME;
     size_t word_count, field_bytes;
+    uint32_t fill, count;
 
     unsigned answer = rahmisve_read(body, length, words, RAHMISVE_MOST_WORDS, header, copies, &word_count);
     if (answer == RAHMISVE_ANSWER_ACCEPTED)
         answer = rahmisve_plan(header, sizeof header, &block, &version, &size, &records, &word_count, &field_bytes);
     if (answer == RAHMISVE_ANSWER_ACCEPTED)
-        answer = rahmisve_watch_offer(watch, block, tag, RAHMISVE_TAG_BYTES, leap_days, LEAP_DAYS, &verdict);
+        answer = rahmisve_watch_offer(watch, block, header[RAHMISVE_HEADER_VALID], tag, RAHMISVE_TAG_BYTES, leap_days, LEAP_DAYS, &verdict,
+                                      &fill, &count);
     if (answer != RAHMISVE_ANSWER_ACCEPTED) {
         printf("field %lu: refused: %u, %s\n", field, answer, texts[answer]);
     } else if (verdicts[verdict]) {
         printf("field %lu: block %u, ", field, block);
         print_time(tag);
-        /* a block 0 that closes a scan opens the next one */
-        printf(": %s%s\n", verdicts[verdict], verdict != RAHMISVE_VERDICT_OPENED && watch[RAHMISVE_WATCH_OPEN] ? ", opened" : "");
+        print_verdict(verdict, count, watch);
     }
 }
 

@@ -1,6 +1,6 @@
 //! watch [FILE]: offers the blocks of a recording, of the file or of standard input, to a scan watch, and prints what
-//! opens a scan and what closes it: the field, its block and SPS time, the verdict. A field that is refused is named
-//! with the reason. What examples/watch.c does, in Rust.
+//! opens a scan and what closes it: the field, its block and SPS time, the verdict, and of a closed scan how many of its
+//! blocks were fill. A field that is refused is named with the reason. What examples/watch.c does, in Rust.
 
 use std::error::Error;
 use std::io::{stdin, stdout, Read, Write};
@@ -28,16 +28,17 @@ fn input() -> Result<(Vec<u8>, String), String> {
     }
 }
 
-/// The verdicts that are printed, those that open a scan or close one.
-fn said(verdict: Verdict) -> Option<&'static str> {
-    match verdict {
-        Verdict::Opened => Some("opened"),
-        Verdict::ClockBack => Some("clock back"),
-        Verdict::Late => Some("late"),
-        Verdict::Broken => Some("broken"),
-        Verdict::Complete => Some("complete"),
-        Verdict::Stray | Verdict::Kept => None,
-    }
+/// What is printed of a verdict that opens a scan or closes one.
+fn said(verdict: Verdict) -> Option<String> {
+    let (closed, fill) = match verdict {
+        Verdict::Stray | Verdict::Kept => return None,
+        Verdict::Opened => return Some("opened".into()),
+        Verdict::ClockBack(fill) => ("clock back", fill),
+        Verdict::Late(fill) => ("late", fill),
+        Verdict::Broken(fill) => ("broken", fill),
+        Verdict::Complete(fill) => ("complete", fill),
+    };
+    Some(format!("{closed}, {} fill", fill.count))
 }
 
 /// Reads the block of a field and offers it: its number, its time and the verdict.
@@ -45,7 +46,7 @@ fn offer(watch: &mut Watch, body: &[u8], room: &mut [u16]) -> Result<(u8, Time, 
     let header = read(body, room)?.header;
     let block = plan(&header)?.block;
     let tag = &header[HEADER_TIME..HEADER_TIME + TAG_BYTES];
-    let verdict = watch.offer(block.into(), tag, &LEAP_DAYS)?;
+    let verdict = watch.offer(block.into(), header[HEADER_VALID].into(), tag, &LEAP_DAYS)?;
     Ok((block, read_tag(tag, &LEAP_DAYS)?, verdict))
 }
 

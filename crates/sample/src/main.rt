@@ -1,6 +1,6 @@
 // Makes a recording on standard output, through the proved writers, so that a newcomer has something to list and to watch: a whole scan of
-// version 2, blocks 11 of every version and size, damaged fields, three scans that a watch with a limit of 5,000 ms closes early, a whole
-// scan over a leap second, and block 2 with three records and with four.
+// version 2, blocks 11 of every version and size, damaged fields, three scans that a watch with a limit of 5,000 ms closes early, one of
+// them with a fill block, a whole scan over a leap second with three of them, and block 2 with three records and with four.
 ghost use Prim.Native.Nat.{_+_, _<_};
 use header::EXTRA_WORDS;
 use libc::STDERR_FILENO;
@@ -17,8 +17,15 @@ const BLOCK_BYTES: usize = 8132;
 
 const MOST_WORDS: usize = 10720;
 
-// Where a header has its SPS time: words 17 to 24.
+// Where a header has its data valid word, word 9, and its SPS time, words 17 to 24.
+const VALID: usize = 8;
+
 const TIME: usize = 16;
+
+// The data valid word of data, and of fill.
+const DATA: u8 = 1;
+
+const FILL: u8 = 0;
 
 // Times are milliseconds behind 23:59:00.000 of one of two days of 2008. The later one, and so the year, ended with a leap second.
 const DAY: u16 = 60;
@@ -34,6 +41,7 @@ struct Block {
     size: u8,
     words: u16,
     version: u8,
+    valid: u8,
     time: Tag,
 }
 
@@ -87,7 +95,7 @@ fn bytes_of(time: Tag) -> [u8; 8] {
     bytes
 }
 
-// A header: block id, word size, word count, version, data marked valid, and the SPS time.
+// A header: block id, word size, word count, version, whether data is marked valid, and the SPS time.
 fn header_of(block: Block) -> [u8; 28]
     requires { ⌜ block .words < 65534 ⌝ }
 {
@@ -98,7 +106,7 @@ fn header_of(block: Block) -> [u8; 28]
     header[2] = (count / 256) as u8;
     header[3] = (count % 256) as u8;
     header[7] = block.version;
-    header[8] = 1;
+    header[VALID] = block.valid;
     let time = bytes_of(block.time);
     room::lay(&time, &mut header, TIME);
     header
@@ -176,7 +184,7 @@ fn put_block(block: Block) -> bool
 }
 
 // A block 1 to 10 of version 2 and of so many infrared pixels.
-fn scanned(number: u8, pixels: u16, time: Tag) -> Block
+fn scanned(number: u8, pixels: u16, valid: u8, time: Tag) -> Block
     requires { ⌜ pixels < 5237 ⌝ }
     ensures { λ r. ⌜ r .words < 65534 ⌝ }
 {
@@ -190,14 +198,15 @@ fn scanned(number: u8, pixels: u16, time: Tag) -> Block
         size: 10,
         words: words,
         version: 2,
+        valid: valid,
         time: time,
     }
 }
 
-fn put_scanned(number: u8, pixels: u16, time: Tag) -> bool
+fn put_scanned(number: u8, pixels: u16, valid: u8, time: Tag) -> bool
     requires { ⌜ pixels < 5237 ⌝ }
 {
-    let block = scanned(number, pixels, time);
+    let block = scanned(number, pixels, valid, time);
     put_block(block)
 }
 
@@ -210,6 +219,7 @@ fn put_counted(id: u8, size: u8, words: u16, version: u8, time: Tag) -> bool
         size: size,
         words: words,
         version: version,
+        valid: DATA,
         time: time,
     };
     put_block(block)
@@ -217,6 +227,17 @@ fn put_counted(id: u8, size: u8, words: u16, version: u8, time: Tag) -> bool
 
 fn put_block_0(time: Tag) -> bool {
     put_counted(240, 8, 8040, 2, time)
+}
+
+// The data valid word of a block in a scan over the end of a day of 2008: on the leap day blocks 2, 5 and 10 are fill.
+fn valid_in_scan(day: u16, number: u8) -> u8 {
+    if day != LEAP_DAY {
+        return DATA;
+    }
+    match number {
+        2 | 5 | 10 => FILL,
+        _ => DATA,
+    }
 }
 
 // Blocks 0 to 10, so many milliseconds apart, over the end of a day of 2008: completed.
@@ -229,7 +250,7 @@ fn put_scan(day: u16, apart: u16, pixels: u16) -> bool
     let mut number: u8 = 1;
     while number <= 10 {
         let time = at(day, SCAN + apart as u32 * number as u32);
-        if !put_scanned(number, pixels, time) {
+        if !put_scanned(number, pixels, valid_in_scan(day, number), time) {
             return false;
         }
         number += 1;
@@ -249,7 +270,7 @@ fn put_blocks_11(ms: u32) -> bool
 
 // A header copy hit, which the other two make good; the data hit; a byte missing; another tag; fewer bytes than a header has.
 fn put_hits(ms: u32) -> bool {
-    let block = scanned(3, PIXELS, at(DAY, ms));
+    let block = scanned(3, PIXELS, DATA, at(DAY, ms));
     put_damaged(block, recording::BLOCK, 5, 16, 0)
         && put_damaged(block, recording::BLOCK, 200, 1, 0)
         && put_damaged(block, recording::BLOCK, 0, 0, 1)
@@ -262,8 +283,8 @@ fn put_late(ms: u32) -> bool
     requires { ⌜ ms + 10001 < 4294967296 ⌝ }
 {
     put_block_0(at(DAY, ms))
-        && put_scanned(1, FEW_PIXELS, at(DAY, ms + 5000))
-        && put_scanned(2, FEW_PIXELS, at(DAY, ms + 10001))
+        && put_scanned(1, FEW_PIXELS, DATA, at(DAY, ms + 5000))
+        && put_scanned(2, FEW_PIXELS, DATA, at(DAY, ms + 10001))
 }
 
 // Block 2 has a time one millisecond before that of block 1: clock back.
@@ -271,19 +292,19 @@ fn put_clock_back(ms: u32) -> bool
     requires { ⌜ ms + 100 < 4294967296 ⌝ }
 {
     put_block_0(at(DAY, ms))
-        && put_scanned(1, FEW_PIXELS, at(DAY, ms + 100))
-        && put_scanned(2, FEW_PIXELS, at(DAY, ms + 99))
+        && put_scanned(1, FEW_PIXELS, DATA, at(DAY, ms + 100))
+        && put_scanned(2, FEW_PIXELS, DATA, at(DAY, ms + 99))
 }
 
-// Block 2 is hit and refused, so that block 3 is not the one expected: broken.
+// Block 2 is hit and refused, so that block 3 is not the one expected: broken. Block 1 is fill.
 fn put_broken(ms: u32) -> bool
     requires { ⌜ ms + 300 < 4294967296 ⌝ }
 {
-    let second = scanned(2, FEW_PIXELS, at(DAY, ms + 200));
+    let second = scanned(2, FEW_PIXELS, DATA, at(DAY, ms + 200));
     put_block_0(at(DAY, ms))
-        && put_scanned(1, FEW_PIXELS, at(DAY, ms + 100))
+        && put_scanned(1, FEW_PIXELS, FILL, at(DAY, ms + 100))
         && put_damaged(second, recording::BLOCK, 200, 1, 0)
-        && put_scanned(3, FEW_PIXELS, at(DAY, ms + 300))
+        && put_scanned(3, FEW_PIXELS, DATA, at(DAY, ms + 300))
 }
 
 // Block 2 with 84 words, which suit both its rows: three records of 12 pixels in version 2, four of 5 in version 3.

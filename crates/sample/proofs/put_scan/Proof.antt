@@ -49,6 +49,9 @@ add-at c = omega (arith, behind-first c)
 at-requires-2 : tie.Need-at-requires-2 Inv-loop μ-loop
 at-requires-2 c κs = search needs
 
+valid-in-scan-requires : tie.Need-valid-in-scan-requires Inv-loop μ-loop
+valid-in-scan-requires c κs = search needs
+
 put-scanned-requires : tie.Need-put-scanned-requires Inv-loop μ-loop
 put-scanned-requires c κs = search needs
 
@@ -81,6 +84,7 @@ put-scan-spec =
     mul-at
     add-at
     at-requires-2
+    valid-in-scan-requires
     put-scanned-requires
     returns-2
     add-number
