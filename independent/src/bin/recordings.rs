@@ -88,10 +88,10 @@ fn on_day_61(ms: i64) -> Tag {
     tag_at(midnight + ms, false)
 }
 
-/// A block with a SPS time.
-fn made(number: u8, size: u8, c: u16, version: u8, time: Tag) -> Vec<u8> {
+/// A block with a SPS time, of data or fill.
+fn made(number: u8, size: u8, c: u16, version: u8, is_fill: bool, time: Tag) -> Vec<u8> {
     let mut header = header(id_of_block(number), size, version, c);
-    header[8] = 1;
+    header[8] = if is_fill { 0 } else { 1 };
     header[16..24].copy_from_slice(&digits(&time));
     let words: Vec<u16> = (0..c).map(|k| k % 61).collect();
     let mut dest = vec![0; 32_000];
@@ -115,20 +115,20 @@ fn over_the_leap_second() -> Vec<Tag> {
 /// What the program `sample` makes: a scan of a hundred pixels over midnight; blocks 11; block 3 hit in one copy, hit in
 /// its field, a byte short, under another tag, and short of a header; scans of one pixel that a watch with a limit of
 /// 5,000 ms closes as late, clock back and broken; a scan of one pixel over the leap second at the end of 2008; and block
-/// 2 of 84 words in versions 2 and 3.
+/// 2 of 84 words in versions 2 and 3. Block 1 of the broken scan is fill, and blocks 2, 5 and 10 over the leap second are.
 fn sample() -> Vec<u8> {
-    let scanned_at = |number: u8, n: usize, time: Tag| match number {
-        0 => made(0, 8, 8_040, 2, time),
-        _ => made(number, 10, c_of_n(number, 2, n) as u16, 2, time),
+    let scanned_at = |number: u8, n: usize, is_fill: bool, time: Tag| match number {
+        0 => made(0, 8, 8_040, 2, is_fill, time),
+        _ => made(number, 10, c_of_n(number, 2, n) as u16, 2, is_fill, time),
     };
-    let scanned = |number: u8, n: usize, ms: i64| scanned_at(number, n, on_day_61(ms));
+    let scanned = |number: u8, n: usize, ms: i64| scanned_at(number, n, false, on_day_61(ms));
     let mut bytes = Vec::new();
     let mut add = |tag: u8, body: &[u8]| bytes.extend(field(tag, body));
     for number in 0..=10 {
         add(1, &scanned(number, 100, 100 * number as i64 - 500));
     }
     for (size, c, version) in [(8, 8_040, 0), (6, 10_720, 1), (10, 6_432, 2), (8, 8_040, 3)] {
-        add(1, &made(11, size, c, version, on_day_61(600 + 100 * version as i64)));
+        add(1, &made(11, size, c, version, false, on_day_61(600 + 100 * version as i64)));
     }
     let third = scanned(3, 100, 1_000);
     add(1, &with_bit(third.clone(), 5, 16));
@@ -140,14 +140,14 @@ fn sample() -> Vec<u8> {
         add(1, &scanned(number, 1, ms));
     }
     add(1, &scanned(0, 1, 12_500));
-    add(1, &scanned(1, 1, 12_600));
+    add(1, &scanned_at(1, 1, true, on_day_61(12_600)));
     add(1, &with_bit(scanned(2, 1, 12_700), 200, 1));
     add(1, &scanned(3, 1, 12_800));
     for (number, time) in over_the_leap_second().into_iter().enumerate() {
-        add(1, &scanned_at(number as u8, 1, time));
+        add(1, &scanned_at(number as u8, 1, [2, 5, 10].contains(&number), time));
     }
-    add(1, &made(2, 10, 84, 2, on_day_61(13_000)));
-    add(1, &made(2, 10, 84, 3, on_day_61(13_100)));
+    add(1, &made(2, 10, 84, 2, false, on_day_61(13_000)));
+    add(1, &made(2, 10, 84, 3, false, on_day_61(13_100)));
     bytes
 }
 
