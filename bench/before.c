@@ -1,4 +1,4 @@
-/* What the list of leap days costs where it is empty: the library before it had one (old_) beside this one (new_), in one program.
+/* What leap days and fill blocks cost where there are none: the library before it had either (old_) beside this one (new_), in one program.
  * bench/before gives the functions these names, links both and runs it. Answers are compared first. A round times every call of both in
  * turn; printed are the median nanoseconds of a call over the rounds, and the median of the rounds' ratios. */
 #include <stdint.h>
@@ -17,8 +17,8 @@ uint8_t old_rahmisve_watch_offer(uint32_t watch[10], uint32_t block, const uint8
 uint8_t new_rahmisve_read_tag(const uint8_t *tag, size_t len, const uint32_t *days, size_t days_len, uint32_t time[7]);
 uint8_t new_rahmisve_elapsed(const uint8_t *from, size_t from_len, const uint8_t *to, size_t to_len, const uint32_t *days, size_t days_len,
                              int64_t *ms);
-uint8_t new_rahmisve_watch_offer(uint32_t watch[10], uint32_t block, const uint8_t *tag, size_t len, const uint32_t *days, size_t days_len,
-                                 uint8_t *verdict);
+uint8_t new_rahmisve_watch_offer(uint32_t watch[RAHMISVE_WATCH_NUMBERS], uint32_t block, uint32_t valid, const uint8_t *tag, size_t len,
+                                 const uint32_t *days, size_t days_len, uint8_t *verdict, uint32_t *fill, uint32_t *count);
 
 /* A scan across midnight: 2016 day 366, 23:59:59.2 and every 0.2 s from there, which is 2017 day 1 from its fifth tag on. */
 static const uint8_t tags[BLOCKS][8] = {
@@ -30,14 +30,14 @@ static const uint8_t tags[BLOCKS][8] = {
     {0x20, 0x17, 0x00, 0x10, 0x00, 0x00, 0x12, 0x00},
 };
 
-/* What some scans of calls left: the answers, joined, and the rest of the last call. */
+/* What some scans of calls left: the answers, joined, and the rest of the last call. The older watch is the first ten of its numbers. */
 struct left {
-    uint32_t answers, numbers[RAHMISVE_WATCH_NUMBERS];
+    uint32_t answers, numbers[RAHMISVE_WATCH_NUMBERS], fill, count;
     int64_t ms;
     uint8_t verdict;
 };
 
-/* Scans of eleven calls each. The older library takes no list. */
+/* Scans of eleven calls each. The older library takes no list and no data valid word. */
 #define SCANS(name, call)                                            \
     static void name(int scans, struct left *left)                   \
     {                                                                \
@@ -50,7 +50,8 @@ SCANS(new_reads, new_rahmisve_read_tag(tags[i], 8, NULL, 0, left->numbers))
 SCANS(old_waits, old_rahmisve_elapsed(tags[0], 8, tags[i], 8, &left->ms))
 SCANS(new_waits, new_rahmisve_elapsed(tags[0], 8, tags[i], 8, NULL, 0, &left->ms))
 SCANS(old_offers, old_rahmisve_watch_offer(left->numbers, (uint32_t)i, tags[i], 8, &left->verdict))
-SCANS(new_offers, new_rahmisve_watch_offer(left->numbers, (uint32_t)i, tags[i], 8, NULL, 0, &left->verdict))
+SCANS(new_offers, new_rahmisve_watch_offer(left->numbers, (uint32_t)i, RAHMISVE_VALID, tags[i], 8, NULL, 0, &left->verdict, &left->fill,
+                                           &left->count))
 
 typedef void scans(int scans, struct left *left);
 
@@ -77,7 +78,7 @@ static void agree(scans *was, scans *is)
 
     was(1, &a);
     is(1, &b);
-    if (a.answers != 0 || b.answers != 0 || a.ms != b.ms || a.verdict != b.verdict ||
+    if (a.answers != 0 || b.answers != 0 || a.ms != b.ms || a.verdict != b.verdict || a.fill != b.fill || a.count != b.count ||
         memcmp(a.numbers, b.numbers, sizeof a.numbers) != 0) {
         fputs("before: the two libraries differ, or a call is refused\n", stderr);
         exit(1);

@@ -120,16 +120,19 @@ uint8_t good_elapsed(const uint8_t *from, size_t from_len, const uint8_t *to, si
     return 0;
 }
 
-uint8_t good_watch_offer(uint32_t watch[10], uint32_t block, const uint8_t *tag, size_t len, const uint32_t *days, size_t count,
-                         uint8_t *verdict)
+uint8_t good_watch_offer(uint32_t watch[11], uint32_t block, uint32_t valid, const uint8_t *tag, size_t len, const uint32_t *days,
+                         size_t count, uint8_t *verdict, uint32_t *fill, uint32_t *fill_count)
 {
     uint32_t time[NUMBERS];
 
     *verdict = REFUSED;
+    *fill = *fill_count = 0;
     if (watch[LIMIT] > LONGEST_WAIT)
         return 16;
     if (watch[OPEN] && watch[EXPECTED] - 1 >= LAST_OF_SCAN)
         return 13;
+    if (bad_fill(watch))
+        return 20;
     if (!good_list(days, count))
         return 19;
     if (watch[OPEN] && !in_bounds(watch + LAST, days, count))
@@ -138,6 +141,7 @@ uint8_t good_watch_offer(uint32_t watch[10], uint32_t block, const uint8_t *tag,
         return 4;
     if (!take_tag(tag, len, days, count, time))
         return 12;
-    *verdict = follow(watch, block, time, watch[OPEN] ? between(watch + LAST, time, days, count) : 0);
+    *verdict = follow(watch, block, valid, time, watch[OPEN] ? between(watch + LAST, time, days, count) : 0, fill);
+    *fill_count = how_many(*fill);
     return 0;
 }

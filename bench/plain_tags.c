@@ -99,17 +99,20 @@ uint8_t plain_elapsed(const uint8_t *from, size_t from_len, const uint8_t *to, s
     return 0;
 }
 
-uint8_t plain_watch_offer(uint32_t watch[10], uint32_t block, const uint8_t *tag, size_t len, const uint32_t *days, size_t count,
-                          uint8_t *verdict)
+uint8_t plain_watch_offer(uint32_t watch[11], uint32_t block, uint32_t valid, const uint8_t *tag, size_t len, const uint32_t *days,
+                          size_t count, uint8_t *verdict, uint32_t *fill, uint32_t *fill_count)
 {
     uint32_t time[NUMBERS];
     int64_t waited = 0;
 
     *verdict = REFUSED;
+    *fill = *fill_count = 0;
     if (watch[LIMIT] > LONGEST_WAIT)
         return 16;
     if (watch[OPEN] && (watch[EXPECTED] < 1 || watch[EXPECTED] > LAST_OF_SCAN))
         return 13;
+    if (bad_fill(watch))
+        return 20;
     if (!good_list(days, count))
         return 19;
     if (watch[OPEN] && !in_bounds(watch + LAST, days, count))
@@ -120,6 +123,7 @@ uint8_t plain_watch_offer(uint32_t watch[10], uint32_t block, const uint8_t *tag
         return 12;
     if (watch[OPEN])
         waited = milliseconds(time, days, count) - milliseconds(watch + LAST, days, count);
-    *verdict = follow(watch, block, time, waited);
+    *verdict = follow(watch, block, valid, time, waited, fill);
+    *fill_count = how_many(*fill);
     return 0;
 }

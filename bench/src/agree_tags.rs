@@ -1,26 +1,28 @@
 //! One way to read tags, to count between them and to follow a scan, against the model on one case.
 
 use independent::compare::{Case, Offer, Start};
-use independent::library::{Library, Model};
+use independent::library::{Library, Model, OfferAnswer};
 use independent::tags::Tag;
 use independent::watch::{Verdict, Watch};
 
-use crate::tags::TagWay;
+use crate::tags::{Offered, TagWay, WatchNumbers};
 
 fn numbers(tag: &Tag) -> [u32; 7] {
     let Tag { year, day, hour, minute, second, millisecond, flywheel } = *tag;
     [year.into(), day.into(), hour.into(), minute.into(), second.into(), millisecond.into(), flywheel.into()]
 }
 
-fn row(watch: &Watch) -> [u32; 10] {
-    let [year, day, hour, minute, second, ms, flywheel] = numbers(&watch.tag);
-    [watch.open.into(), watch.expected.into(), year, day, hour, minute, second, ms, flywheel, watch.limit]
+fn row(watch: &Watch) -> WatchNumbers {
+    let Watch { open, expected, tag, limit, fill } = watch;
+    let [year, day, hour, minute, second, ms, flywheel] = numbers(tag);
+    [(*open).into(), (*expected).into(), year, day, hour, minute, second, ms, flywheel, *limit, *fill]
 }
 
-/// An answer, and the number of its verdict.
-fn numbers_of(verdict: Verdict) -> (u8, u8) {
-    match verdict {
-        Verdict::Refused(answer) => (answer, 0),
+/// An answer of the model in numbers.
+fn numbers_of(answer: OfferAnswer) -> Offered {
+    let OfferAnswer { verdict, fill, count } = answer;
+    let (number, verdict) = match verdict {
+        Verdict::Refused(number) => (number, 0),
         Verdict::Stray => (0, 1),
         Verdict::Opened => (0, 2),
         Verdict::Kept => (0, 3),
@@ -28,7 +30,8 @@ fn numbers_of(verdict: Verdict) -> (u8, u8) {
         Verdict::Late => (0, 5),
         Verdict::Broken => (0, 6),
         Verdict::Complete => (0, 7),
-    }
+    };
+    Offered { number, verdict, fill, count }
 }
 
 fn read(way: &TagWay, tag: &[u8], leap_days: &[u32]) -> u8 {
@@ -47,29 +50,36 @@ fn elapsed(way: &TagWay, from: &[u8], to: &[u8], leap_days: &[u32]) -> u8 {
     expected.0
 }
 
-fn offer(way: &TagWay, watch: &mut Watch, offer: &Offer) -> u8 {
-    let Offer { block, tag, leap_days } = offer;
+fn offer(way: &TagWay, watch: &mut Watch, offer: &Offer) -> Offered {
+    let Offer { block, valid, tag, leap_days } = offer;
     let before = *watch;
     let mut after = row(&before);
-    let expected = numbers_of(Model.offer(watch, *block, tag, leap_days));
-    let got = way.offer(&mut after, (*block).into(), tag, leap_days);
+    let expected = numbers_of(Model.offer(watch, *block, *valid, tag, leap_days));
+    let got = way.offer(&mut after, (*block).into(), *valid, tag, leap_days);
     assert_eq!((got, after), (expected, row(watch)), "{} offer {before:?} {offer:?}", way.name);
-    expected.0
+    expected
 }
 
-/// How many calls were compared, and how many of them the list was refused for and the tag or the watch.
+/// How many calls were compared; of them those refused for the list, for the watch's set and for something else, and
+/// those that closed a scan with fill in it.
 #[derive(Default)]
 pub struct Compared {
     pub calls: u64,
     pub bad_list: u64,
+    pub bad_fill: u64,
     pub refused: u64,
+    pub closed_with_fill: u64,
 }
 
 impl Compared {
     fn count(&mut self, answer: u8) {
         self.calls += 1;
-        self.bad_list += (answer == 19) as u64;
-        self.refused += !matches!(answer, 0 | 19) as u64;
+        match answer {
+            0 => {}
+            19 => self.bad_list += 1,
+            20 => self.bad_fill += 1,
+            _ => self.refused += 1,
+        }
     }
 
     /// Nothing where the case is about something else.
@@ -83,7 +93,9 @@ impl Compared {
                     Start::Lent(watch) => *watch,
                 };
                 for one in offers {
-                    self.count(offer(way, &mut watch, one));
+                    let Offered { number, count, .. } = offer(way, &mut watch, one);
+                    self.count(number);
+                    self.closed_with_fill += (count > 0) as u64;
                 }
             }
             _ => {}

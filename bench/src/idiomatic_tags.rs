@@ -3,6 +3,7 @@
 
 const LONGEST_WAIT: u32 = 3_600_000;
 const LAST_OF_SCAN: u32 = 10;
+const VALID: u32 = 1;
 
 #[derive(Clone, Copy, Default)]
 pub struct Time {
@@ -92,30 +93,48 @@ pub fn elapsed(from: &[u8], to: &[u8], leap_days: &[u32]) -> Result<i64, u8> {
 }
 
 #[derive(Clone, Copy)]
-pub enum Verdict {
-    Stray = 1,
-    Opened,
-    Kept,
-    ClockBack,
+pub enum Closing {
+    ClockBack = 4,
     Late,
     Broken,
     Complete,
+}
+
+#[derive(Clone, Copy)]
+pub enum Verdict {
+    Stray,
+    Opened,
+    Kept,
+    /// With the set of the scan's fill blocks.
+    Closed(Closing, u32),
 }
 
 pub struct Watch {
     /// The expected block and the last tag, where a scan is open.
     open: Option<(u32, Time)>,
     limit: u32,
+    /// The fill blocks of that scan: bit b stands for block b.
+    fill: u32,
 }
 
 impl Watch {
-    pub fn offer(&mut self, block: u32, tag: &[u8], leap_days: &[u32]) -> Result<Verdict, u8> {
+    fn in_bounds(&self) -> Result<(), u8> {
         if self.limit > LONGEST_WAIT {
             return Err(16);
         }
-        if self.open.is_some_and(|(expected, _)| !(1..=LAST_OF_SCAN).contains(&expected)) {
-            return Err(13);
+        let to_come = match self.open {
+            Some((expected @ 1..=LAST_OF_SCAN, _)) => expected,
+            Some(_) => return Err(13),
+            None => 0,
+        };
+        if self.fill >> to_come != 0 {
+            return Err(20);
         }
+        Ok(())
+    }
+
+    pub fn offer(&mut self, block: u32, valid: u32, tag: &[u8], leap_days: &[u32]) -> Result<Verdict, u8> {
+        self.in_bounds()?;
         let leap_days = LeapDays::new(leap_days)?;
         if self.open.is_some_and(|(_, last)| !last.in_bounds(leap_days)) {
             return Err(12);
@@ -124,38 +143,41 @@ impl Watch {
             return Err(4);
         }
         let time = Time::parse(tag, leap_days)?;
+        let own = u32::from(valid != VALID) << block;
         Ok(match self.open {
             Some((expected, last)) => {
                 let waited = time.milliseconds(leap_days) - last.milliseconds(leap_days);
-                self.follow(block, time, expected, waited)
+                self.follow(block, own, time, expected, waited)
             }
             None if block == 0 => {
-                self.open = Some((1, time));
+                (self.open, self.fill) = (Some((1, time)), own);
                 Verdict::Opened
             }
             None => Verdict::Stray,
         })
     }
 
-    fn follow(&mut self, block: u32, time: Time, expected: u32, waited: i64) -> Verdict {
-        let verdict = match waited {
-            ..0 => Verdict::ClockBack,
-            _ if waited > self.limit.into() => Verdict::Late,
-            _ if block != expected => Verdict::Broken,
-            _ if block == LAST_OF_SCAN => Verdict::Complete,
+    /// `own` is the set of the block alone, or empty where it is valid.
+    fn follow(&mut self, block: u32, own: u32, time: Time, expected: u32, waited: i64) -> Verdict {
+        let (closing, fill) = match waited {
+            ..0 => (Closing::ClockBack, self.fill),
+            _ if waited > self.limit.into() => (Closing::Late, self.fill),
+            _ if block != expected => (Closing::Broken, self.fill),
+            _ if block == LAST_OF_SCAN => (Closing::Complete, self.fill | own),
             _ => {
-                self.open = Some((expected + 1, time));
+                (self.open, self.fill) = (Some((expected + 1, time)), self.fill | own);
                 return Verdict::Kept;
             }
         };
-        self.open = (block == 0).then_some((1, time));
-        verdict
+        (self.open, self.fill) = if block == 0 { (Some((1, time)), own) } else { (None, 0) };
+        Verdict::Closed(closing, fill)
     }
 }
 
 /// The three functions of tags.h. Where a length is 0 the pointer is not followed.
 pub(crate) mod c {
-    use super::{Time, Watch};
+    use super::{Time, Verdict, Watch};
+    use crate::tags::WatchNumbers;
 
     unsafe fn lent<'a, T>(from: *const T, length: usize) -> &'a [T] {
         if length == 0 {
@@ -195,24 +217,39 @@ pub(crate) mod c {
         elapsed.err().unwrap_or(0)
     }
 
+    /// The number of a verdict, and the set that it hands over.
+    fn numbers_of(verdict: Verdict) -> (u8, u32) {
+        match verdict {
+            Verdict::Stray => (1, 0),
+            Verdict::Opened => (2, 0),
+            Verdict::Kept => (3, 0),
+            Verdict::Closed(closing, fill) => (closing as u8, fill),
+        }
+    }
+
     pub unsafe extern "C" fn idiomatic_watch_offer(
-        row: *mut [u32; 10],
+        row: *mut WatchNumbers,
         block: u32,
+        valid: u32,
         tag: *const u8,
         len: usize,
         days: *const u32,
         count: usize,
         verdict: *mut u8,
+        fill: *mut u32,
+        fill_count: *mut u32,
     ) -> u8 {
-        let [open, expected, year, day, hour, minute, second, ms, flywheel, limit] = *row;
+        let [open, expected, year, day, hour, minute, second, ms, flywheel, limit, set] = *row;
         let last = Time { year, day, hour, minute, second, ms, flywheel: flywheel != 0 };
-        let mut watch = Watch { open: (open != 0).then_some((expected, last)), limit };
-        let did = watch.offer(block, lent(tag, len), lent(days, count));
-        *verdict = did.map_or(0, |verdict| verdict as u8);
-        if *verdict > super::Verdict::Stray as u8 {
+        let mut watch = Watch { open: (open != 0).then_some((expected, last)), limit, fill: set };
+        let did = watch.offer(block, valid, lent(tag, len), lent(days, count));
+        (*verdict, *fill) = did.map_or((0, 0), numbers_of);
+        *fill_count = (*fill).count_ones();
+        if did.is_ok_and(|verdict| !matches!(verdict, Verdict::Stray)) {
             let (expected, time) = watch.open.unwrap_or_default();
             let [year, day, hour, minute, second, ms, flywheel] = numbers(time);
-            *row = [watch.open.is_some().into(), expected, year, day, hour, minute, second, ms, flywheel, limit];
+            let open = watch.open.is_some().into();
+            *row = [open, expected, year, day, hour, minute, second, ms, flywheel, limit, watch.fill];
         }
         did.err().unwrap_or(0)
     }

@@ -6,7 +6,21 @@ use rahmisve_sys::*;
 
 type ReadTag = unsafe extern "C" fn(*const u8, usize, *const u32, usize, *mut [u32; 7]) -> u8;
 type Elapsed = unsafe extern "C" fn(*const u8, usize, *const u8, usize, *const u32, usize, *mut i64) -> u8;
-type Offer = unsafe extern "C" fn(*mut [u32; 10], u32, *const u8, usize, *const u32, usize, *mut u8) -> u8;
+type Offer = unsafe extern "C" fn(
+    *mut WatchNumbers,
+    u32,
+    u32,
+    *const u8,
+    usize,
+    *const u32,
+    usize,
+    *mut u8,
+    *mut u32,
+    *mut u32,
+) -> u8;
+
+/// The numbers of a watch, as rahmisve.h has their places.
+pub type WatchNumbers = [u32; 11];
 
 pub struct TagWay {
     pub name: &'static str,
@@ -29,13 +43,16 @@ macro_rules! in_c {
                 ms: *mut i64,
             ) -> u8;
             fn $offer(
-                watch: *mut [u32; 10],
+                watch: *mut WatchNumbers,
                 block: u32,
+                valid: u32,
                 tag: *const u8,
                 len: usize,
                 days: *const u32,
                 count: usize,
                 verdict: *mut u8,
+                fill: *mut u32,
+                fill_count: *mut u32,
             ) -> u8;
         }
     };
@@ -57,6 +74,15 @@ pub const BASELINES: [TagWay; 3] = [
     },
 ];
 
+/// What an offer answers: its number, the verdict, and the set of fill blocks and their count of a scan that it closes.
+#[derive(Clone, Copy, Debug, Default, PartialEq)]
+pub struct Offered {
+    pub number: u8,
+    pub verdict: u8,
+    pub fill: u32,
+    pub count: u32,
+}
+
 // SAFETY, of all three: the pointers are those of slices as long as is said, and of places that are no part of them.
 impl TagWay {
     pub fn read_tag(&self, tag: &[u8], leap_days: &[u32], time: &mut [u32; 7]) -> u8 {
@@ -68,11 +94,14 @@ impl TagWay {
         unsafe { (self.elapsed)(from.as_ptr(), from.len(), to.as_ptr(), to.len(), days, count, ms) }
     }
 
-    /// The answer, with the verdict behind it.
-    pub fn offer(&self, watch: &mut [u32; 10], block: u32, tag: &[u8], leap_days: &[u32]) -> (u8, u8) {
-        let mut verdict = 0xC3;
+    pub fn offer(&self, watch: &mut WatchNumbers, block: u32, valid: u32, tag: &[u8], leap_days: &[u32]) -> Offered {
+        // No answer: every place is to be written.
+        let mut offered = Offered { number: 0xC3, verdict: 0xC3, fill: 0xC3C3, count: 0xC3C3 };
         let (days, count) = (leap_days.as_ptr(), leap_days.len());
-        let answer = unsafe { (self.offer)(watch, block, tag.as_ptr(), tag.len(), days, count, &mut verdict) };
-        (answer, verdict)
+        let Offered { verdict, fill, count: fill_count, .. } = &mut offered;
+        offered.number = unsafe {
+            (self.offer)(watch, block, valid, tag.as_ptr(), tag.len(), days, count, verdict, fill, fill_count)
+        };
+        offered
     }
 }

@@ -1,10 +1,11 @@
-//! agree SEED COUNT: the three baselines against the model, with tags and leap days too, and plain C's search for blocks
-//! against the library's.
+//! agree SEED COUNT: the three baselines against the model, with tags, leap days and fill blocks too, and plain C's search
+//! for blocks against the library's.
 
 use bench::agree_tags::Compared;
 use bench::search::{Rooms, LIBRARY, PLAIN};
 use bench::{tags, Way, BASELINES};
 use independent::compare::{case_of, Case};
+use independent::compare_fills::fill_case_of;
 use independent::compare_leaps::leap_case_of;
 use independent::header::sealed;
 use independent::inputs::{draft, Dice};
@@ -114,11 +115,10 @@ fn salvaging(dice: &mut Dice) -> Rooms {
     found
 }
 
-/// Tags, elapsed time and offers, with lists of leap days good and bad.
+/// Tags, elapsed time and offers, with lists of leap days good and bad, and with blocks of fill.
 fn tagging(seed: u64, count: u64) -> Compared {
     let mut compared = Compared::default();
-    for number in 0..count {
-        let case = leap_case_of(seed, number);
+    for case in (0..count).flat_map(|number| [leap_case_of(seed, number), fill_case_of(seed, number)]) {
         for way in &tags::BASELINES {
             compared.compare(way, &case);
         }
@@ -176,11 +176,14 @@ fn main() {
     let [searches, salvaged, blocks] = searches;
     println!(
         "{} baselines agree with the model: {checks} check words, {reads} reads ({accepted} accepted), \
-         {writes} writes, {packs} packings, {} calls on tags ({} with a bad list of leap days, {} refused for something \
-         else); and plain C's search with the library's: {searches} inputs ({salvaged} accepted, {blocks} blocks)",
+         {writes} writes, {packs} packings, {} calls on tags ({} with a bad list of leap days, {} with a bad set of fill \
+         blocks, {} refused for something else, {} that close a scan with fill in it); and plain C's search with the \
+         library's: {searches} inputs ({salvaged} accepted, {blocks} blocks)",
         BASELINES.len(),
         tagged.calls,
         tagged.bad_list,
-        tagged.refused
+        tagged.bad_fill,
+        tagged.refused,
+        tagged.closed_with_fill
     );
 }

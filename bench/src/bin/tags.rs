@@ -6,9 +6,10 @@ use std::hint::black_box;
 use std::time::{Duration, Instant};
 
 use bench::against;
-use bench::tags::{TagWay, BASELINES, LIBRARY};
+use bench::tags::{Offered, TagWay, WatchNumbers, BASELINES, LIBRARY};
 use independent::leaps::{clock, number};
 use independent::tags::{days_in, spell, Tag};
+use independent::watch::VALID;
 
 const OFFERS: usize = 11;
 /// The waiting limit, in ms, and the time between two offers of a scan.
@@ -36,15 +37,15 @@ struct Left {
     answers: u8,
     time: [u32; 7],
     ms: i64,
-    watch: [u32; 10],
-    verdict: u8,
+    watch: WatchNumbers,
+    offered: Offered,
 }
 
 impl Left {
     fn new() -> Left {
-        let mut watch = [0; 10];
+        let mut watch = WatchNumbers::default();
         watch[9] = LIMIT;
-        Left { answers: 0, time: [0; 7], ms: 0, watch, verdict: 0 }
+        Left { answers: 0, time: [0; 7], ms: 0, watch, offered: Offered::default() }
     }
 }
 
@@ -70,9 +71,8 @@ impl Trial {
             What::Read => way.read_tag(tag, leap_days, &mut left.time),
             What::Elapsed => way.elapsed(&EARLY, tag, leap_days, &mut left.ms),
             What::Offer => {
-                let (answer, verdict) = way.offer(&mut left.watch, i as u32, tag, leap_days);
-                left.verdict = verdict;
-                answer
+                left.offered = way.offer(&mut left.watch, i as u32, VALID, tag, leap_days);
+                left.offered.number
             }
         };
     }
@@ -96,7 +96,7 @@ fn agree(trial: &Trial, ways: &[TagWay; 4]) {
     let expected = trial.all(&BASELINES[0]);
     let last = &expected[OFFERS - 1];
     assert_eq!(last.answers, 0, "{}: refused", trial.name);
-    assert!(trial.what != What::Offer || last.verdict == 7, "{}: the scan is not complete", trial.name);
+    assert!(trial.what != What::Offer || last.offered.verdict == 7, "{}: the scan is not complete", trial.name);
     for way in ways {
         assert_eq!(trial.all(way), expected, "{}: {} leaves something else than plain C", trial.name, way.name);
     }
