@@ -219,6 +219,7 @@ fn usage() -> ExitCode {
 mod tests {
     use independent::block::read;
     use independent::header::meaning;
+    use independent::library::OfferAnswer;
     use independent::recording::list;
     use independent::rows::LARGEST_C;
     use independent::watch::{begin, offer, Verdict};
@@ -241,9 +242,9 @@ mod tests {
     }
 
     /// What a watch with a limit of 5,000 ms says to the accepted blocks of the sample, by the leap days that are lent.
-    fn watched(leap_days: &[u32]) -> Vec<Verdict> {
+    fn watched(leap_days: &[u32]) -> Vec<OfferAnswer> {
         let mut watch = begin(5_000).1;
-        let mut verdicts = Vec::new();
+        let mut answers = Vec::new();
         let bytes = super::sample();
         let mut rest = &bytes[..];
         while let [tag, high, low, body @ ..] = rest {
@@ -253,10 +254,24 @@ mod tests {
             if *tag == 1 && answer.number == 0 {
                 let block = meaning(&answer.header).unwrap().block;
                 let valid = answer.header[8].into();
-                verdicts.push(offer(&mut watch, block, valid, &answer.header[16..24], leap_days).verdict);
+                answers.push(offer(&mut watch, block, valid, &answer.header[16..24], leap_days));
             }
         }
-        verdicts
+        answers
+    }
+
+    fn verdicts(leap_days: &[u32]) -> Vec<Verdict> {
+        watched(leap_days).iter().map(|answer| answer.verdict).collect()
+    }
+
+    /// Each verdict that hands over fill blocks, the set and the count.
+    fn handed_over(leap_days: &[u32]) -> Vec<(Verdict, u32, u32)> {
+        let handed = |answer: &OfferAnswer| (answer.fill, answer.count) != (0, 0);
+        watched(leap_days)
+            .into_iter()
+            .filter(handed)
+            .map(|answer| (answer.verdict, answer.fill, answer.count))
+            .collect()
     }
 
     /// The verdicts over the sample, with those of its scan over the leap second.
@@ -271,7 +286,15 @@ mod tests {
     fn a_watch_over_the_sample_meets_every_verdict() {
         use Verdict::*;
         let complete = [&[Opened][..], &[Kept; 9], &[Complete]].concat();
-        assert_eq!(watched(&[2_008_366]), with_leap_scan(&complete));
+        assert_eq!(verdicts(&[2_008_366]), with_leap_scan(&complete));
+    }
+
+    #[test]
+    fn two_closings_of_the_sample_hand_over_fill_blocks() {
+        use Verdict::*;
+        assert_eq!(handed_over(&[2_008_366]), [(Broken, 1 << 1, 1), (Complete, 1 << 2 | 1 << 5 | 1 << 10, 3)]);
+        // Without the leap day block 5 is refused and block 10 a stray.
+        assert_eq!(handed_over(&[]), [(Broken, 1 << 1, 1), (Broken, 1 << 2, 1)]);
     }
 
     /// Blocks 3 to 7 stand in second 60, and block 8 is not the one expected then.
@@ -279,7 +302,7 @@ mod tests {
     fn without_its_leap_day_five_blocks_of_the_sample_are_refused() {
         use Verdict::*;
         let broken = [&[Opened, Kept, Kept][..], &[Refused(12); 5], &[Broken], &[Stray; 2]].concat();
-        assert_eq!(watched(&[]), with_leap_scan(&broken));
+        assert_eq!(verdicts(&[]), with_leap_scan(&broken));
     }
 
     #[test]
