@@ -45,12 +45,12 @@ module _ (leaps row : List ℕ) (b v : ℕ) (s : List ℕ) where
   followed (closes e o y) = either (λ (v : Watch). watchIn (numbersOfWatch v) ≡ v) (eqb b 0) (λ _. open-again e 1 (filled 0 0 v) (omega arith)) (λ _. idle-again (w .limit))
   followed (keeps e o m q n) = open-again e (w .expected + 1) (filled (w .fill) (w .expected) v) (omega (arith, to-ten w (accepted-for leaps w b s e .expected) o))
 
-offers : (leaps row : List ℕ) (os : List Offer) → watchIn (rowsAfter leaps row os) ≡ after leaps (watchIn row) os
+offers : (row : List ℕ) (os : List Offer) → watchIn (rowsAfter row os) ≡ after (watchIn row) os
 unfolding rowsAfter after
-offers leaps row [] = refl
-offers leaps row (o ∷ os) =
-    offers leaps (rowAfter (stepOf leaps (watchIn row) (o .block) (o .valid) (o .tag)) row) os
-    ∙ ap (λ (v : Watch). after leaps v os) (followed leaps row (o .block) (o .valid) (o .tag) (turn leaps (watchIn row) (o .block) (o .valid) (o .tag)))
+offers row [] = refl
+offers row (o ∷ os) =
+    offers (rowAfter (stepOf (o .leaps) (watchIn row) (o .block) (o .valid) (o .tag)) row) os
+    ∙ ap (λ (v : Watch). after v os) (followed (o .leaps) row (o .block) (o .valid) (o .tag) (turn (o .leaps) (watchIn row) (o .block) (o .valid) (o .tag)))
 
 pub row-follows : RowFollows
 row-follows = record {

@@ -37,7 +37,8 @@ use Rattle.watch.specs.Rules.{opening, onIdle, onGood, stepOf}
 use Rattle.watch.specs.declared.Stepped.{Stepped}
 use Rattle.watch.specs.declared.Verdict.{Verdict}
 use Rattle.watch.specs.declared.Verdict.the-variants.{Refused, Stray, Opened}
-use Rattle.watch.proofs.LawsSteps.{stepped, same-step}
+use Rattle.watch.proofs.LawsSteps.{stepped}
+use Rattle.watch.proofs.LawsWords.{same-step}
 use Rattle.recording.specs.Lines.{lineOf, roomListed}
 use Rattle.recording.proofs.KeepsLines.{other-line}
 use Rattle.c_numbers.specs.Numbers.{upTo}

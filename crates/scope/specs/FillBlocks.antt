@@ -15,9 +15,9 @@ pub record Sets : Type 0 where
   pub many : HowMany 1060 3
   pub none : (b : ℕ) → Has 0 b → ⊥
 
--- The watch's own promises print what each offer does to the set, and say without the steps what is handed over: of any offers to a watch that
--- was begun idle, those of the scan that were good and fill. They are cited.
+-- The watch's own promises print what each offer does to the set, and say what is handed over by the offers alone: of any offers to a watch
+-- that was begun idle, each with a list of its own, those that were accepted since the scan's block 0 and are fill. They are cited.
 pub record FillBlocks : Type 0 where
   pub sets : Sets
   pub one : (leaps : List ℕ) → OneFill leaps
-  pub scans : (leaps : List ℕ) → AnyFills leaps
+  pub scans : AnyFills

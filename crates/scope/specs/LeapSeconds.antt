@@ -130,7 +130,7 @@ crossing k =
 -- With that day listed and a limit of 1,000 ms a watch completes such a scan, in 10,000 ms, whatever the data valid words are.
 pub record Crossing : Type 0 where
   pub completed : (valid : ℕ → ℕ)
-      → kindOf (verdictOf (2016366 ∷ []) (after (2016366 ∷ []) (resting 1000) (blocksBefore 10 valid crossing)) (offerOf valid crossing 10)) ≡ 7
+      → kindOf (verdictOf (after (resting 1000) (blocksBefore 10 (2016366 ∷ []) valid crossing)) (offerOf (2016366 ∷ []) valid crossing 10)) ≡ 7
   pub true-time : elapsedOf (2016366 ∷ []) (crossing 0) (crossing 10) ≡ record { number = 0; ms = pos 10000 }
 
 pub record LeapSeconds : Type 0 where

@@ -7,3 +7,4 @@ pub mod KeepsRules
 pub mod KeepsScans
 pub mod KeepsFilled
 pub mod KeepsHanded
+pub mod LawsWords

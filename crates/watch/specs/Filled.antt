@@ -4,17 +4,16 @@
 use mathlib.Core.Path.{_≡_}
 use mathlib.Core.Logic.{_⊎_, _↔_}
 use Prim.Native.Nat.{ℕ, zero, suc, _≤_, _<_}
-use mathlib.Core.Bool.{Bool, not, _&&_}
+use mathlib.Core.Bool.{not}
 use mathlib.Core.List.{List, [], _∷_, _++_}
-use lib.Dec.{eqb, leb}
+use lib.Dec.{eqb}
 use lib.ListN.{length, getD}
 use Rattle.ground.specs.Choice.{pick}
-use Rattle.tag.specs.Tags.{goodTag}
 use Rattle.watch_bounds.specs.Sets.{Has}
 use Rattle.watch_bounds.specs.declared.Watch.{Watch}
 use Rattle.watch.specs.Verdicts.{kindOf, fillOf, countOf}
 use Rattle.watch.specs.Rules.{stepOf}
-use Rattle.watch.specs.Offers.{Offer, verdictOf, after}
+use Rattle.watch.specs.Offers.{Offer, verdictOf, after, accepted}
 use Rattle.watch.specs.Promises.{resting, kind, BegunBy}
 
 -- Of two sets: the one is the other with block b as well, where its data valid word v is not 1.
@@ -51,44 +50,42 @@ pub record OneFill (leaps : List ℕ) : Type 0 where
   pub count : (w : Watch) (b v : ℕ) (s : List ℕ) → 4 ≤ kind leaps w b v s
       → HowMany (fillOf (stepOf leaps w b v s .verdict)) (countOf (stepOf leaps w b v s .verdict))
 
--- Of a list of offers: those of a known block with a good tag, those of them that are fill, and the numbers of their blocks.
-unfoldable pub chosen : (Offer → Bool) → List Offer → List Offer
-chosen test [] = []
-chosen test (o ∷ os) = pick (test o) (o ∷ chosen test os) (chosen test os)
-
-abbrev pub good : List ℕ → Offer → Bool
-good leaps o = leb (o .block) 11 && goodTag leaps (o .tag)
-
-abbrev pub goodFill : List ℕ → Offer → Bool
-goodFill leaps o = good leaps o && not (eqb (o .valid) 1)
+-- Of a list of offers: those that are fill, and the numbers of their blocks.
+unfoldable pub fillsOf : List Offer → List Offer
+fillsOf [] = []
+fillsOf (o ∷ os) = pick (not (eqb (o .valid) 1)) (o ∷ fillsOf os) (fillsOf os)
 
 unfoldable pub blocksOf : List Offer → List ℕ
 blocksOf [] = []
 blocksOf (o ∷ os) = o .block ∷ blocksOf os
 
--- The offers of a scan that were good had blocks in order, which are the scan's blocks; those of them that were fill are the set handed over,
--- and as many as its count says.
-pub record Handed (leaps : List ℕ) (scan : List Offer) (blocks : List ℕ) (set count : ℕ) : Type 0 where
-  pub in-order : blocksOf (chosen (good leaps) scan) ≡ blocks
-  pub fills : (k : ℕ) → Has set k ↔ Among k (blocksOf (chosen (goodFill leaps) scan))
-  pub many : length (chosen (goodFill leaps) scan) ≡ count
+-- The offers that were accepted for a scan had its blocks, in order; those of them that were fill are the set handed over, and as many as
+-- its count says.
+pub record Handed (taken : List Offer) (blocks : List ℕ) (set count : ℕ) : Type 0 where
+  pub in-order : blocksOf taken ≡ blocks
+  pub fills : (k : ℕ) → Has set k ↔ Among k (blocksOf (fillsOf taken))
+  pub many : length (fillsOf taken) ≡ count
+
+-- The offers that were accepted from a scan's block 0 on.
+abbrev pub takenBy : (w : Watch) (os : List Offer) → BegunBy w os → List Offer
+takenBy w os by = accepted (after w (by .earlier)) (by .first ∷ by .since)
 
 -- The offer o after the offers os closes the scan that one of them began.
-pub record AtClosing (leaps : List ℕ) (limit : ℕ) (os : List Offer) (o : Offer) (scan : BegunBy leaps (resting limit) os → List Offer) (blocks : List ℕ) : Type 0 where
-  pub by : BegunBy leaps (resting limit) os
+pub record AtClosing (limit : ℕ) (os : List Offer) (o : Offer) (scan : List Offer → List Offer) (blocks : List ℕ) : Type 0 where
+  pub by : BegunBy (resting limit) os
   pub handed :
-      Handed leaps (scan by) blocks (fillOf (verdictOf leaps (after leaps (resting limit) os) o)) (countOf (verdictOf leaps (after leaps (resting limit) os) o))
+      Handed (scan (takenBy (resting limit) os by)) blocks (fillOf (verdictOf (after (resting limit) os) o)) (countOf (verdictOf (after (resting limit) os) o))
 
 -- Blocks 0 to n - 1.
 unfoldable pub firstBlocks : ℕ → List ℕ
 firstBlocks zero = []
 firstBlocks (suc n) = firstBlocks n ++ (n ∷ [])
 
--- A watch is begun idle and gets any offers, some of them refused, all with this one list.
-pub record AnyFills (leaps : List ℕ) : Type 0 where
+-- A watch is begun idle and gets any offers, some of them refused, each with a list of leap days of its own.
+pub record AnyFills : Type 0 where
   -- A completed scan has blocks 0 to 10, the last by the offer that completes it.
-  pub complete : (limit : ℕ) (os : List Offer) (o : Offer) → kindOf (verdictOf leaps (after leaps (resting limit) os) o) ≡ 7
-      → AtClosing leaps limit os o (λ by. by .first ∷ (by .since ++ (o ∷ []))) (0 ∷ 1 ∷ 2 ∷ 3 ∷ 4 ∷ 5 ∷ 6 ∷ 7 ∷ 8 ∷ 9 ∷ 10 ∷ [])
+  pub complete : (limit : ℕ) (os : List Offer) (o : Offer) → kindOf (verdictOf (after (resting limit) os) o) ≡ 7
+      → AtClosing limit os o (λ taken. taken ++ (o ∷ [])) (0 ∷ 1 ∷ 2 ∷ 3 ∷ 4 ∷ 5 ∷ 6 ∷ 7 ∷ 8 ∷ 9 ∷ 10 ∷ [])
   -- Any other has blocks from 0 on, and the offer that closes it is none of them.
-  pub closed : (limit : ℕ) (os : List Offer) (o : Offer) → 4 ≤ kindOf (verdictOf leaps (after leaps (resting limit) os) o) → kindOf (verdictOf leaps (after leaps (resting limit) os) o) < 7
-      → AtClosing leaps limit os o (λ by. by .first ∷ by .since) (firstBlocks (after leaps (resting limit) os .expected))
+  pub closed : (limit : ℕ) (os : List Offer) (o : Offer) → 4 ≤ kindOf (verdictOf (after (resting limit) os) o) → kindOf (verdictOf (after (resting limit) os) o) < 7
+      → AtClosing limit os o (λ taken. taken) (firstBlocks (after (resting limit) os .expected))

@@ -17,7 +17,7 @@ use Rattle.watch_bounds.specs.Promises.{Sound}
 use Rattle.watch_bounds.specs.declared.Watch.{Watch}
 use Rattle.watch.specs.Verdicts.{numberOf, kindOf}
 use Rattle.watch.specs.Rules.{beginOf, stepOf}
-use Rattle.watch.specs.Offers.{Offer, nextOf, verdictOf, after, begins, noneBegins, offerOf, blocksBefore}
+use Rattle.watch.specs.Offers.{Offer, nextOf, verdictOf, after, begins, noneBegins, OneList, offerOf, blocksBefore}
 
 -- The watch at rest, idle with block and tag zero and an empty set, number by number.
 abbrev pub resting : ℕ → Watch
@@ -95,32 +95,34 @@ pub record AcceptedOffer (leaps : List ℕ) : Type 0 where
   pub eleven : (w : Watch) (v : ℕ) (s : List ℕ) → InTime leaps w 11 s → kind leaps w 11 v s ≡ 6
 
 -- After the offers os to a watch: the block 0 that began the scan it is in was offered and accepted, with none after it.
-pub record BegunBy (leaps : List ℕ) (w : Watch) (os : List Offer) : Type 0 where
+pub record BegunBy (w : Watch) (os : List Offer) : Type 0 where
   pub earlier : List Offer
   pub first : Offer
   pub since : List Offer
   pub parts : os ≡ earlier ++ (first ∷ since)
-  pub begun : begins leaps (after leaps w earlier) first ≡ true
-  pub none-since : noneBegins leaps (nextOf leaps (after leaps w earlier) first) since ≡ true
+  pub begun : begins (after w earlier) first ≡ true
+  pub none-since : noneBegins (nextOf (after w earlier) first) since ≡ true
 
 -- The offer o after the offers os completes a scan, which its block 10 ends, no less than 0 and no more than ten limits after its block 0.
 pub record Scan (leaps : List ℕ) (limit : ℕ) (os : List Offer) (o : Offer) : Type 0 where
-  pub by : BegunBy leaps (resting limit) os
+  pub by : BegunBy (resting limit) os
   pub ten : o .block ≡ 10
   pub number : elapsedOf leaps (by .first .tag) (o .tag) .number ≡ 0
   pub forward : pos 0 ≤ℤ elapsedOf leaps (by .first .tag) (o .tag) .ms
   pub soon : elapsedOf leaps (by .first .tag) (o .tag) .ms ≤ℤ pos (10 * limit)
 
+-- A watch is begun idle and gets any offers, some of them refused.
 pub record AnyOffers (leaps : List ℕ) : Type 0 where
-  -- A watch is begun idle and gets any offers, some of them refused, all with this one list.
-  pub completed : (limit : ℕ) (os : List Offer) (o : Offer) → kindOf (verdictOf leaps (after leaps (resting limit) os) o) ≡ 7 → Scan leaps limit os o
+  -- With this one list lent throughout, a scan that it completes is one.
+  pub completed : (limit : ℕ) (os : List Offer) (o : Offer) → OneList leaps os → o .leaps ≡ leaps
+      → kindOf (verdictOf (after (resting limit) os) o) ≡ 7 → Scan leaps limit os o
   -- A scan whose blocks 0 to 10 are offered in order, each from 0 to the limit after the one before it, is completed.
   pub whole : (limit : ℕ) (valid : ℕ → ℕ) (tag : ℕ → List ℕ) → limit ≤ 3600000 → IsList leaps → ((k : ℕ) → k ≤ 10 → IsTag leaps (tag k))
       → ((k : ℕ) → k < 10 → (pos 0 ≤ℤ elapsedOf leaps (tag k) (tag (suc k)) .ms) × (elapsedOf leaps (tag k) (tag (suc k)) .ms ≤ℤ pos limit))
-      → kindOf (verdictOf leaps (after leaps (resting limit) (blocksBefore 10 valid tag)) (offerOf valid tag 10)) ≡ 7
+      → kindOf (verdictOf (after (resting limit) (blocksBefore 10 leaps valid tag)) (offerOf leaps valid tag 10)) ≡ 7
   -- Nor does such a watch ever refuse a known block with a good tag.
-  pub never-refused : (limit : ℕ) (os : List Offer) (o : Offer) → limit ≤ 3600000 → IsList leaps → o .block ≤ 11 → IsTag leaps (o .tag)
-      → numberOf (verdictOf leaps (after leaps (resting limit) os) o) ≡ 0
-  -- Whatever its limit and the list are, it always expects a block that there is, and its set is within bounds.
+  pub never-refused : (limit : ℕ) (os : List Offer) (o : Offer) → OneList leaps os → o .leaps ≡ leaps → limit ≤ 3600000 → IsList leaps → o .block ≤ 11
+      → IsTag leaps (o .tag) → numberOf (verdictOf (after (resting limit) os) o) ≡ 0
+  -- Whatever its limit and the lists are, it always expects a block that there is, and its set is within bounds.
   pub never-itself : (limit : ℕ) (os : List Offer) (o : Offer)
-      → (numberOf (verdictOf leaps (after leaps (resting limit) os) o) ≡ 13 → ⊥) × (numberOf (verdictOf leaps (after leaps (resting limit) os) o) ≡ 20 → ⊥)
+      → (numberOf (verdictOf (after (resting limit) os) o) ≡ 13 → ⊥) × (numberOf (verdictOf (after (resting limit) os) o) ≡ 20 → ⊥)
