@@ -255,7 +255,7 @@ uint8_t rahmisve_watch_begin(uint32_t limit, uint32_t watch[RAHMISVE_WATCH_NUMBE
  * the end of the scan. With one list and one limit throughout, a scan that completes took at most ten times the limit. A last tag with
  * second 60 is bad by a list that does not have its day.
  * Refusals: 16, 13 and 20 for the watch, 19 for the list, 12 for the watch's last tag, then 4 for the block, 12 for its tag; 13 and the
- * first 12 only while a scan is open. 20 is given for a set with the expected block or one above it, which every bit from 1 << 11 on is,
+ * first 12 only while a scan is open. 20 is given for a set with the expected block or one above it, which every bit from 1 << 10 on is,
  * and for an idle watch whose set is not empty. A watch that was begun and then only offered to never has such a set: its numbers came from
  * elsewhere. With 19 the list is wrong, and the watch may go on: offer the same again with a good list. A watch that is refused itself
  * stays so by the same list, whatever is offered, block 0 too: begin it anew. 12 is for the watch where rahmisve_read_tag accepts the

@@ -333,7 +333,7 @@ plan-2 : planOf (2 ∷ 10 ∷ 0 ∷ 86 ∷ 0 ∷ 0 ∷ 0 ∷ 3 ∷ replicate 20 
 unfolding planOf says.numberOf rowOf permits recordsIn fieldBits fieldBytes
 plan-2 = refl
 
--- both printed offers come 2,123 ms after the last tag
+-- the printed offers come 2,123 ms after the last tag
 abbrev tag-912 : List ℕ
 tag-912 = 0x19 ∷ 0x87 ∷ 0x23 ∷ 0x42 ∷ 0x14 ∷ 0x35 ∷ 0x89 ∷ 0x12 ∷ []
 
@@ -345,6 +345,11 @@ keeps = rw (← quick 1987)
 completes : stepOf [] (watchIn (1 ∷ 10 ∷ 1987 ∷ 234 ∷ 21 ∷ 43 ∷ 56 ∷ 789 ∷ 1 ∷ 5000 ∷ 36 ∷ [])) (upTo 255 10) (upTo 255 0) tag-912 ≡ stepped (idle 5000) (Closed Complete 1060 3)
 unfolding upTo stepOf refusalOf onGood ruleOf inTime filled ones risesFrom goodList listed listedBefore digitsOf decimal valueOf tagOf goodSecond inBounds goodTag countOf timeOf
 completes = rw (← quick 1987)
+
+breaks : stepOf [] (watchIn (1 ∷ 2 ∷ 1987 ∷ 234 ∷ 21 ∷ 43 ∷ 56 ∷ 789 ∷ 1 ∷ 5000 ∷ 2 ∷ [])) (upTo 255 0) (upTo 255 255) tag-912
+    ≡ stepped (expecting 1 (record { year = 1987; day = 234; hour = 21; minute = 43; second = 58; ms = 912; flywheel = false }) 5000 1) (Closed Broken 2 1)
+unfolding upTo stepOf refusalOf onGood ruleOf inTime filled ones risesFrom goodList listed listedBefore digitsOf decimal valueOf tagOf goodSecond inBounds goodTag countOf timeOf
+breaks = rw (← quick 1987)
 
 -- the places of an offer afterwards: of the two slices and the two numbers nothing is said
 abbrev places : (row : List ℕ) (verdict fill count : ℕ) → List ℕ × (Unit {0} × (Unit {0} × (Unit {0} × (Unit {0} × (ℕ × (ℕ × (ℕ × Unit {0})))))))
@@ -385,6 +390,10 @@ rows-from-c = record {
   complete = λ _ g x h b v t d.
       let p = x .allowed in
       let e = (λ i. stepOf (d i) (watchIn (h i)) (upTo 255 (b i)) (upTo 255 (v i)) (t i)) ∙ completes in
+      (p .0 ∙ (λ i. numberOf (e i .verdict)), λ i. places ((p .1 .1 .1 .1 ∙ (λ j. rowAfter (e j) (h j))) i) ((p .1 .0 ∙ (λ j. kindOf (e j .verdict))) i) ((p .1 .1 .0 ∙ (λ j. fillOf (e j .verdict))) i) ((p .1 .1 .1 .0 ∙ (λ j. filledOf (e j .verdict))) i));
+  anew = λ _ g x h b v t d.
+      let p = x .allowed in
+      let e = (λ i. stepOf (d i) (watchIn (h i)) (upTo 255 (b i)) (upTo 255 (v i)) (t i)) ∙ breaks in
       (p .0 ∙ (λ i. numberOf (e i .verdict)), λ i. places ((p .1 .1 .1 .1 ∙ (λ j. rowAfter (e j) (h j))) i) ((p .1 .0 ∙ (λ j. kindOf (e j .verdict))) i) ((p .1 .1 .0 ∙ (λ j. fillOf (e j .verdict))) i) ((p .1 .1 .1 .0 ∙ (λ j. filledOf (e j .verdict))) i));
   row7 = λ _ g x f s c r.
       let field = g .0 .now in let size = g .1 .0 in let count = g .1 .1 .0 in let room = g .1 .1 .1 .0 .now in (

@@ -235,6 +235,11 @@ pub record RowsFromC : Type 0 where
       now row ≡ 1 ∷ 10 ∷ 1987 ∷ 234 ∷ 21 ∷ 43 ∷ 56 ∷ 789 ∷ 1 ∷ 5000 ∷ 36 ∷ [] → block ≡ 10 → valid ≡ 0 → now tag ≡ 0x19 ∷ 0x87 ∷ 0x23 ∷ 0x42 ∷ 0x14 ∷ 0x35 ∷ 0x89 ∷ 0x12 ∷ []
       → now leaps ≡ []
       → (answer ≡ 0) × (left ≡ (0 ∷ 0 ∷ 0 ∷ 0 ∷ 0 ∷ 0 ∷ 0 ∷ 0 ∷ 0 ∷ 5000 ∷ 0 ∷ [], (tt, (tt, (tt, (tt, (7, (1060, (3, tt))))))))))
+  -- block 0 breaks a scan of which block 1 was fill, and is fill itself: 2 is handed over, and the set of the new scan is 1
+  pub anew : Every rahmisve_watch_offer.ended rahmisve_watch_offer.Reads.Learnt (λ _ (row, (block, (valid, (tag, (leaps, _))))) answer left.
+      now row ≡ 1 ∷ 2 ∷ 1987 ∷ 234 ∷ 21 ∷ 43 ∷ 56 ∷ 789 ∷ 1 ∷ 5000 ∷ 2 ∷ [] → block ≡ 0 → valid ≡ 255 → now tag ≡ 0x19 ∷ 0x87 ∷ 0x23 ∷ 0x42 ∷ 0x14 ∷ 0x35 ∷ 0x89 ∷ 0x12 ∷ []
+      → now leaps ≡ []
+      → (answer ≡ 0) × (left ≡ (1 ∷ 1 ∷ 1987 ∷ 234 ∷ 21 ∷ 43 ∷ 58 ∷ 912 ∷ 0 ∷ 5000 ∷ 1 ∷ [], (tt, (tt, (tt, (tt, (6, (2, (1, tt))))))))))
   -- row 7, in a room of five
   pub row7 : Every rahmisve_take_words.ended rahmisve_take_words.Reads.Learnt (λ _ (field, (size, (count, (room, _)))) answer left.
       now field ≡ 0x00 ∷ 0x40 ∷ 0x20 ∷ 0x0C ∷ 0x04 ∷ [] → size ≡ 10 → count ≡ 4 → now room ≡ 9 ∷ 8 ∷ 7 ∷ 6 ∷ 5 ∷ []

@@ -7,7 +7,7 @@ use native.Mathlib.Omega.{arith}
 use lib.Dec.{lit<}
 use lib.Count.{ones}
 use Rattle.watch_bounds.specs.Sets.{Has}
-use Rattle.watch_bounds.proofs.LawsSets.{below-all}
+use Rattle.watch_bounds.proofs.LawsSets.{none-in-empty, below-all, only, same-number}
 use Rattle.watch.proofs.LawsLists.{how-many}
 use Rattle.watch.proofs.KeepsFilled.{one-fill}
 use Rattle.watch.proofs.KeepsHanded.{any-fills}
@@ -43,10 +43,7 @@ printed b = (λ h. is-printed b (below-all 1060 11 b (lit< tt) h) h, printed-has
 
 sets : Sets
 unfolding ones
-sets = record { number = refl; blocks = printed; many = how-many 1060; none = λ b h. absurd (nothing b (below-all 0 0 b (lit< tt) h)) }
-  where
-    nothing : (b : ℕ) → b < 0 → ⊥
-    nothing b l = omega arith
+sets = record { one = only; same = same-number; number = refl; blocks = printed; many = how-many 1060; none = none-in-empty }
 
 pub fill-blocks : FillBlocks
 fill-blocks = record { sets = sets; one = one-fill; scans = any-fills }

@@ -106,7 +106,7 @@ pub record Watching (leaps : List ℕ) : Type 0 where
   pub rule : (w : Watch) (b v : ℕ) (s : List ℕ) (t : Tag) → Says s t → numberOf (stepOf leaps w b v s .verdict) ≡ 0
       → FirstOf (rules leaps w b t) (kindOf (stepOf leaps w b v s .verdict))
   pub left : OneOffer leaps
-  -- with one limit and one list throughout
+  -- under one limit and one list; that it is never refused for itself holds with any
   pub scans : AnyOffers leaps
 
 -- Eleven tags, a second apart, over the leap second of 2016 day 366: 23:59:55 to 23:59:60, then midnight to 00:00:04.

@@ -20,8 +20,8 @@ use Rattle.scope.specs.Tags.{Says, Bounds, Bad}
 abbrev pub Outside : Watch → Type 0
 Outside w = (b : ℕ) × Has (w .fill) b × (((w .opened ≡ true) × (w .expected ≤ b)) ⊎ (w .opened ≡ false))
 
--- Whatever record is lent is tested: 16 for its limit; where it is open, 13 for its expected block; 20 for its set, open or idle; where it is
--- open, 12 for its last tag. Then come 4 for the block that is offered and 12 for its tag. The data valid word has no part in it.
+-- Whatever record is lent is tested: 16 for its limit; where it is open, 13 for its expected block; 20 for its set, open or idle; where it
+-- is open, 12 for its last tag. Then come 4 for the block that is offered and 12 for its tag. The data valid word has no part in it.
 abbrev pub refusals : Watch → ℕ → List ℕ → List Reason
 refusals w b s =
     16 if (3600000 < w .limit)
@@ -34,8 +34,8 @@ refusals w b s =
 
 -- What an accepted offer does, by its kind: 1 a stray, 2 opened, 3 kept; closed 4 as clock back, 5 as late, 6 as broken, 7 as complete.
 -- Idle: block 0 opens a scan, any other block is a stray. Open, d being the time from the last tag to the offered one: d is negative (4), d
--- is greater than the limit (5), the block is not the expected one (6), it is block 10 (7); otherwise the scan goes on (3). The rules are the
--- same with a list of leap days, by which d is counted.
+-- is greater than the limit (5), the block is not the expected one (6), it is block 10 (7); otherwise the scan goes on (3). The rules are
+-- the same with a list of leap days, by which d is counted.
 abbrev pub rules : List ℕ → Watch → ℕ → Tag → List Reason
 rules leaps w b t =
     2 if ((w .opened ≡ false) × (b ≡ 0))

@@ -2,15 +2,14 @@
 -- Assumes nothing.
 use mathlib.Core.Path.{_≡_, refl, sym, subst}
 use Prim.Native.Nat.{ℕ, _^_, _≤_, _<_}
-use native.Mathlib.Nat.{lt-of-lt-of-le}
 use native.Mathlib.Omega.{arith}
 use mathlib.Core.Bool.{true}
 use mathlib.Core.List.{List}
-use lib.Pow.{pow-mono}
 use Rattle.tag.specs.Tags.{tagOf}
 use Rattle.watch_bounds.specs.Bounds.{refusalOf}
 use Rattle.watch_bounds.specs.declared.Watch.{Watch}
 use Rattle.watch_bounds.proofs.LawsBounds.{accepted-for, to-ten, under}
+use Rattle.watch_bounds.proofs.LawsSets.{below-later}
 use Rattle.watch.specs.Verdicts.{kindOf, fillOf, countOf}
 use Rattle.watch.specs.Fills.{filled}
 use Rattle.watch.specs.Rules.{opening, handed}
@@ -32,7 +31,7 @@ module _ (leaps : List ℕ) (w : Watch) (b v : ℕ) (s : List ℕ) where
   below e o = under w (accepted-for leaps w b s e .fill) o
 
   below-ten : refusalOf leaps w b s ≡ 0 → w .opened ≡ true → w .fill < 2 ^ 10
-  below-ten e o = lt-of-lt-of-le (below e o) (pow-mono {i = w .expected} {j = 10} (to-ten w (accepted-for leaps w b s e .expected) o))
+  below-ten e o = below-later (w .fill) (w .expected) 10 (to-ten w (accepted-for leaps w b s e .expected) o) (below e o)
 
   goes-on : {r : Stepped} → Turn leaps w b v s r → kindOf (r .verdict) ≡ 3 → Gains (r .next .fill) (w .fill) b v
   goes-on (refuses h) x = absurd (omega arith)

@@ -1,9 +1,10 @@
--- The promises on the fill blocks of any offers are kept. The invariant: of an open watch, the offers accepted since its block 0 had the blocks
--- below the expected one in order, and those of them that were fill are its set.
+-- The promises on the fill blocks of any offers are kept. The invariant: of an open watch, the offers accepted since its block 0 had the
+-- blocks below the expected one in order, and those of them that were fill are its set.
 -- Assumes nothing.
 use mathlib.Core.Path.{_≡_, refl, sym, ap, _∙_, subst}
 use mathlib.Core.Logic.{_⊎_, _↔_, inl, inr}
 use Prim.Native.Nat.{ℕ, suc, _+_, _^_, _≤_, _<_}
+use native.Mathlib.Nat.{not-suc-le-zero}
 use native.Mathlib.Numerals.{add-one}
 use native.Mathlib.Omega.{arith}
 use mathlib.Core.Bool.{Bool, true, false}
@@ -20,7 +21,7 @@ use Rattle.watch_bounds.specs.Sets.{Has}
 use Rattle.watch_bounds.specs.Bounds.{refusalOf}
 use Rattle.watch_bounds.specs.declared.Watch.{Watch}
 use Rattle.watch_bounds.proofs.LawsBounds.{accepted-for, from-one, under}
-use Rattle.watch_bounds.proofs.LawsSets.{below-all}
+use Rattle.watch_bounds.proofs.LawsSets.{none-in-empty}
 use Rattle.watch.specs.Verdicts.{kindOf, fillOf, countOf}
 use Rattle.watch.specs.Fills.{isFill, filled}
 use Rattle.watch.specs.Rules.{idle, opening}
@@ -85,10 +86,7 @@ begins-taken w os o h t = ap (λ (x : Bool). pick x (o ∷ []) []) t
 
 nothing-yet : Handed [] (firstBlocks 0) 0 (ones 0)
 unfolding blocksOf fillsOf firstBlocks ones
-nothing-yet = record { in-order = refl; fills = λ k. (λ i. absurd (none k (below-all 0 0 k (omega arith) i)), λ a. absurd (none (a .0) (a .1))); many = refl }
-  where
-    none : (n : ℕ) → n < 0 → ⊥
-    none n h = omega arith
+nothing-yet = record { in-order = refl; fills = λ k. (λ i. absurd (none-in-empty k i), λ a. absurd (not-suc-le-zero (a .1))); many = refl }
 
 -- block e, above the set
 module _ (taken : List Offer) (o : Offer) (e set : ℕ) (h : set < 2 ^ e) (q : o .block ≡ e) (H : Handed taken (firstBlocks e) set (ones set)) where

@@ -1,5 +1,5 @@
--- The promises on beginning and on one offer are kept, the latter case by case of what it did; the numbers by the list of grounds; and what
--- an accepted offer does, by the promises on the rules.
+-- The promises on beginning and on one offer are kept, the latter case by case of what it did; the numbers as `watch_bounds` keeps them;
+-- and what an accepted offer does, by the promises on the rules.
 -- Assumes nothing.
 use mathlib.Core.Path.{_≡_, refl, sym, ap, _∙_}
 use Prim.Native.Nat.{ℕ, _+_, _^_, _≤_}
@@ -194,6 +194,8 @@ one-offer leaps = record {
   refused = λ w b v s. returned leaps w b v s (turn leaps w b v s);
   stray = λ w b v s. stays leaps w b v s (turn leaps w b v s);
   unread = λ x y b v s. unread leaps b v s x y;
+  opened-alike = λ x y b v s e h k.
+      opened leaps x b v s (turn leaps x b v s) h ∙ ap (opening v (tagOf s)) e ∙ sym (opened leaps y b v s (turn leaps y b v s) k);
   opening = λ w b v s h. waits-for-one leaps w b v s (opened leaps w b v s (turn leaps w b v s) h);
   anew = λ w b v s h z. waits-for-one leaps w b v s (anew leaps w b v s h z);
   at-rest = at-rest leaps;

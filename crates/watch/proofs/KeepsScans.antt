@@ -1,5 +1,5 @@
--- The promises on any offers with one list are kept. The invariant: the limit stays, and an open watch's last tag is no earlier than its block 0's,
--- and later by at most a limit for each block since.
+-- The promises on any offers are kept, those on time with one list. The invariant: the limit stays, and an open watch's last tag is no
+-- earlier than its block 0's, and later by at most a limit for each block since.
 -- Assumes nothing.
 use mathlib.Core.Path.{_≡_, refl, sym, ap, _∙_, subst}
 use Prim.Native.Nat.{ℕ, zero, suc, _+_, _*_, _≤_, _<_}

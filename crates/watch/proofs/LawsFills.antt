@@ -19,7 +19,7 @@ use Rattle.watch.specs.Filled.{Gains}
 pub fill-not-one : (v : ℕ) → isFill v ≡ true → v ≡ 1 → ⊥
 fill-not-one v h = eqb-false v 1 (not-true (eqb v 1) h)
 
-pub valid-one : (v : ℕ) → isFill v ≡ false → v ≡ 1
+valid-one : (v : ℕ) → isFill v ≡ false → v ≡ 1
 valid-one v h = eqb-true v 1 (not-false (eqb v 1) h)
 
 module _ (set b v : ℕ) (h : set < 2 ^ b) where

@@ -3,7 +3,7 @@
 use mathlib.Core.Path.{_≡_, refl, sym, ap, _∙_, subst}
 use mathlib.Core.Logic.{_⊎_, _↔_, inl, inr}
 use Prim.Native.Nat.{ℕ, zero, suc, _+_, _-_, _^_, _≤_, _<_}
-use native.Mathlib.Nat.{eq-or-lt-of-le, pow-suc}
+use native.Mathlib.Nat.{eq-or-lt-of-le, not-suc-le-zero, pow-suc}
 use native.Mathlib.Omega.{arith}
 use mathlib.Core.Bool.{Bool, true, false}
 use mathlib.Core.List.{List, [], _∷_, _++_}
@@ -13,7 +13,7 @@ use lib.ListN.{length, getD, length-append, List·getD-append}
 use lib.Count.{ones}
 use borrow.Author.Tests.{ltb-true, ltb-false}
 use Rattle.watch_bounds.specs.Sets.{Has}
-use Rattle.watch_bounds.proofs.LawsSets.{below-all, below-power, it-has, still-has, had, one-more}
+use Rattle.watch_bounds.proofs.LawsSets.{none-in-empty, below-all, below-power, it-has, still-has, had, one-more}
 use Rattle.watch.specs.Filled.{Among, Rising, HowMany}
 
 -- ---- one number more
@@ -60,10 +60,7 @@ module _ (ks : List ℕ) (n : ℕ) where
 
 none-listed : HowMany 0 (ones 0)
 unfolding ones
-none-listed = record { blocks = []; rising = λ i h. absurd (omega arith); exactly = λ k. (λ i. absurd (nothing k (below-all 0 0 k (omega arith) i)), λ a. absurd (nothing (a .0) (a .1))); many = refl }
-  where
-    nothing : (n : ℕ) → n < 0 → ⊥
-    nothing n h = omega arith
+none-listed = record { blocks = []; rising = λ i h. absurd (not-suc-le-zero h); exactly = λ k. (λ i. absurd (none-in-empty k i), λ a. absurd (not-suc-le-zero (a .1))); many = refl }
 
 -- block n on top of the blocks below it
 module _ (set n : ℕ) (h : set < 2 ^ n) (H : HowMany set (ones set)) where

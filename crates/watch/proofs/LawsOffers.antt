@@ -1,5 +1,5 @@
--- Offers one after the other: a list of them and one more, what holds of every watch that was begun idle, and that such a watch stays within
--- its bounds.
+-- Offers one after the other: a list of them and one more, what holds of every watch that was begun idle, and that such a watch stays
+-- within its bounds.
 -- Assumes nothing.
 use mathlib.Core.Path.{_≡_, refl, sym, ap, _∙_, subst}
 use Prim.Native.Nat.{ℕ, _+_, _^_, _≤_, _<_}
@@ -136,7 +136,7 @@ module _ (leaps : List ℕ) (w : Watch) (b v : ℕ) (s : List ℕ) where
   good-last : refusalOf leaps w b s ≡ 0 → not (inBounds leaps (tagOf s)) ≡ false
   good-last e = ap not (good-bounds leaps s (accepted-for leaps w b s e .tag))
 
-  pub stays-last : badLast leaps w ≡ false → {r : Stepped} → Turn leaps w b v s r → badLast leaps (r .next) ≡ false
+  stays-last : badLast leaps w ≡ false → {r : Stepped} → Turn leaps w b v s r → badLast leaps (r .next) ≡ false
   stays-last h (refuses n) = h
   stays-last h (strays e i n) = h
   stays-last h (opens e z) = good-last e

@@ -1,6 +1,7 @@
--- What is promised of the watch, with any list of leap days: of its beginning, of the numbers given, of one offer and what an accepted one
--- does, kept in proofs/KeepsRules.antt; then of any sequence of offers, kept in proofs/KeepsScans.antt. Numbers and records stand here as the
--- scope prints them, not by the rules' own names. What is promised of the blocks that were fill stands in specs/Filled.antt.
+-- What is promised of the watch, with any list of leap days: of its beginning, of one offer and what an accepted one does, kept in
+-- proofs/KeepsRules.antt, where the numbers that `watch_bounds` promises are shown to be those of a step; then of any sequence of offers,
+-- kept in proofs/KeepsScans.antt. Numbers and records stand here as the scope prints them, not by the rules' own names. What is promised of
+-- the blocks that were fill stands in specs/Filled.antt.
 -- Assumes nothing.
 use mathlib.Core.Path.{_≡_}
 use Prim.Native.Nat.{ℕ, suc, _+_, _*_, _≤_, _<_}
@@ -53,9 +54,12 @@ pub record OneOffer (leaps : List ℕ) : Type 0 where
   -- A refused record comes back as given; a stray leaves the watch as it is.
   pub refused : (w : Watch) (b v : ℕ) (s : List ℕ) → (given leaps v w b s ≡ 0 → ⊥) → (kind leaps w b v s ≡ 0) × (stepOf leaps w b v s .next ≡ w)
   pub stray : (w : Watch) (b v : ℕ) (s : List ℕ) → kind leaps w b v s ≡ 1 → stepOf leaps w b v s .next ≡ w
-  -- What an idle record holds beside its set is not read: two of one limit and one set get one verdict, and the same watch where a scan opens.
+  -- What an idle record holds beside its set is not read: two of one limit and one set get one verdict, and the same watch where a scan
+  -- opens.
   pub unread : (x y : Watch) (b v : ℕ) (s : List ℕ) → x .opened ≡ false → y .opened ≡ false → x .limit ≡ y .limit → x .fill ≡ y .fill
       → stepOf leaps x b v s .verdict ≡ stepOf leaps y b v s .verdict
+  pub opened-alike : (x y : Watch) (b v : ℕ) (s : List ℕ) → x .limit ≡ y .limit → kind leaps x b v s ≡ 2 → kind leaps y b v s ≡ 2
+      → stepOf leaps x b v s .next ≡ stepOf leaps y b v s .next
   pub opening : (w : Watch) (b v : ℕ) (s : List ℕ) → kind leaps w b v s ≡ 2 → Waits (stepOf leaps w b v s .next) 1 (tagOf s) (w .limit)
   -- Where the offer that closes a scan is block 0, it opens the next one as well. Every other closing leaves the watch idle, with zeros for
   -- expected block and tag, and an empty set.
@@ -81,8 +85,8 @@ pub record InTime (leaps : List ℕ) (w : Watch) (b : ℕ) (s : List ℕ) : Type
   pub forward : pos 0 ≤ℤ between leaps (w .last) (tagOf s)
   pub soon : between leaps (w .last) (tagOf s) ≤ℤ pos (w .limit)
 
--- What an accepted offer does, rule by rule: it opens (2), is a stray (1) or kept (3), and closes as clock back (4), late (5), broken (6) or
--- complete (7).
+-- What an accepted offer does, rule by rule: it opens (2), is a stray (1) or kept (3), and closes as clock back (4), late (5), broken (6)
+-- or complete (7).
 pub record AcceptedOffer (leaps : List ℕ) : Type 0 where
   pub opens : (w : Watch) (b v : ℕ) (s : List ℕ) → Idle leaps w b s → b ≡ 0 → kind leaps w b v s ≡ 2
   pub strays : (w : Watch) (b v : ℕ) (s : List ℕ) → Idle leaps w b s → (b ≡ 0 → ⊥) → kind leaps w b v s ≡ 1

@@ -1,6 +1,6 @@
 // The watch that follows blocks 0 to 10 of a scan: how it begins, one offer to it by value, and the thin function over a watch that the
-// host lends. With each offer come the block's data valid word and the list of leap days. What an offer does stands in specs/Rules.antt, what
-// is promised of any sequence of offers in specs/Promises.antt, and of the blocks that were fill in specs/Filled.antt.
+// host lends. With each offer come the block's data valid word and the list of leap days. What an offer does stands in specs/Rules.antt,
+// what is promised of any sequence of offers in specs/Promises.antt, and of the blocks that were fill in specs/Filled.antt.
 ghost use mathlib.Core.Path.{_≡_};
 ghost use lib.Dec.{eqb};
 ghost use Rattle.watch.specs.Rules.{beginOf, stepOf};

@@ -1,4 +1,5 @@
-// What an accepted offer does: to an idle watch, and to an open one by the rules of a scan; and which blocks were fill, kept and handed over.
+// What an accepted offer does: to an idle watch, and to an open one by the rules of a scan; and which blocks were fill, kept and handed
+// over.
 ghost use mathlib.Core.Path.{_≡_};
 ghost use mathlib.Core.Bool.{true};
 ghost use Prim.Native.Nat.{_^_, _≤_, _<_};

@@ -1,5 +1,5 @@
--- What no refusal says: every ground failed, so an open watch's expected block and set are in bounds, the list is one and the offered tag is
--- good.
+-- What no refusal says: every ground failed, so an open watch's expected block and set are in bounds, the list is one and the offered tag
+-- is good.
 -- Assumes nothing.
 use mathlib.Core.Path.{_≡_, refl, sym, ap, _∙_}
 use Prim.Native.Nat.{ℕ, _^_, _≤_, _<_}

@@ -34,8 +34,8 @@ badFill w = not (ltb (w .fill) (2 ^ bounding w))
 abbrev pub badLast : List ℕ → Watch → Bool
 badLast leaps w = w .opened && not (inBounds leaps (w .last))
 
--- Whatever record is lent is tested: 16 for its limit, 13 for its expected block, 20 for its set of fill blocks; then 19 for the list, and 12
--- for its last tag by that list.
+-- Whatever record is lent is tested: 16 for its limit, 13 for its expected block, 20 for its set of fill blocks; then 19 for the list, and
+-- 12 for its last tag by that list.
 abbrev pub lent : List ℕ → Watch → List Ground
 lent leaps w = (16 when badLimit w) ∷ (13 when badExpected w) ∷ (20 when badFill w) ∷ (19 when not (goodList leaps)) ∷ (12 when badLast leaps w) ∷ []
 

@@ -36,13 +36,14 @@ fn bad_expected(w: Watch) -> bool
     w.opened & ((w.expected < 1) | (LAST_OF_SCAN < w.expected))
 }
 
+// The block that all of the set are below: the expected one, and 0 while idle.
 fn bounding(w: Watch) -> u8
     ensures { λ r. ⌜ r ≡ bounding w ⌝ }
 {
     if w.opened { w.expected } else { 0 }
 }
 
-// The set of that block alone is the least number that is too large.
+// The set of the bounding block alone is the least number that is too large.
 fn bad_fill(w: Watch) -> bool
     requires { ⌜ (w .opened ≡ true → w .expected ≤ 10) ⌝ }
     ensures { λ r. ⌜ r ≡ badFill w ⌝ }

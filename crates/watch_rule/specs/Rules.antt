@@ -19,7 +19,7 @@ lastOfScan = 10
 unfoldable pub inTime : ℕ → ℕ → Rule
 inTime expected b = pick (not (eqb b expected)) (Closes Broken) (pick (eqb b lastOfScan) (Closes Complete) Keeps)
 
--- With d the time from the last tag to the offered one. d is negative: the scan closes as clock back. d is greater than the limit: it closes
--- as late.
+-- With d the time from the last tag to the offered one. d is negative: the scan closes as clock back. d is greater than the limit: it
+-- closes as late.
 unfoldable pub ruleOf : ℕ → ℕ → ℕ → ℤ → Rule
 ruleOf expected limit b d = pick (ltZ d (pos 0)) (Closes ClockBack) (pick (ltZ (pos limit) d) (Closes Late) (inTime expected b))

@@ -1,5 +1,5 @@
-// The rules of a scan: what an open watch does with an offer, by four numbers. The clock decides first. The rules stand in specs/Rules.antt,
-// what is promised of them in specs/Promises.antt.
+// The rules of a scan: what an open watch does with an offer, by four numbers. The clock decides first. The rules stand in
+// specs/Rules.antt, what is promised of them in specs/Promises.antt.
 ghost use mathlib.Core.Path.{_≡_};
 ghost use lib.Dec.{eqb};
 ghost use lib.IntN.{pos};

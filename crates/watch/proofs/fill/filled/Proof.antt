@@ -1,5 +1,5 @@
--- `watch::fill::filled` adds the block's bit where its word says fill: 1 moved up by the block's number, which is above the set, so that the
--- sum has room.
+-- `watch::fill::filled` adds the block's bit where its word says fill: 1 moved up by the block's number, which is above the set, so that
+-- the sum has room.
 -- Assumes nothing.
 use mathlib.Core.Path.{refl, sym, ap, subst}
 use Prim.Native.Nat.{ℕ, suc, _+_, _^_, _<_, _≤_}

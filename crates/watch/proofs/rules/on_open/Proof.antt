@@ -1,29 +1,24 @@
 -- `watch::rules::on_open` asks for the rule, and follows it.
 -- Assumes nothing.
 use mathlib.Core.Path.{_≡_, sym, ap, _∙_}
-use Prim.Native.Nat.{ℕ, _^_, _≤_, _<_}
-use native.Mathlib.Nat.{lt-of-lt-of-le}
+use Prim.Native.Nat.{ℕ}
 use lib.IntN.{ℤ}
-use lib.Pow.{pow-mono}
 use mir.Facts.{toZ-ofZ}
 use borrow.Author.Needs.{needs}
 use Rattle.watch_rule.specs.Rules.{ruleOf}
 use Rattle.watch_rule.specs.declared.Rule.{Rule}
 use Rattle.watch_bounds.specs.declared.Watch.{Watch}
+use Rattle.watch_bounds.proofs.LawsSets.{below-later}
 use Rattle.watch.specs.Rules.{following}
 use Rattle.watch.proofs.rules.on_open.Statement.{statement}
 use Rattle.watch.proofs.rules.on_open.Tie as tie
-
--- a set below the expected block is below block 10
-to-ten : (set e : ℕ) → e ≤ 10 → set < 2 ^ e → set < 2 ^ 10
-to-ten set e k h = lt-of-lt-of-le h (pow-mono {i = e} {j = 10} k)
 
 -- the rule of a time that came as a machine's number
 asked : (w : Watch) (b : ℕ) {r : Rule} {d e : ℤ} → d ≡ e → r ≡ ruleOf (w .expected) (w .limit) b d → r ≡ ruleOf (w .expected) (w .limit) b e
 asked w b same e = e ∙ ap (ruleOf (w .expected) (w .limit) b) same
 
 close-requires : tie.Need-close-requires
-close-requires c κs = let start = c .before .before .before .before in to-ten (start .args .w .fill) (start .args .w .expected) (start .pre .0) (start .pre .1)
+close-requires c κs = let start = c .before .before .before .before in below-later (start .args .w .fill) (start .args .w .expected) 10 (start .pre .0) (start .pre .1)
 
 returns : tie.Need-returns
 returns c =
