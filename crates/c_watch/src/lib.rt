@@ -1,7 +1,7 @@
 // The scan watch, from C. The host keeps it as eleven numbers: open, expected block, the seven numbers of the last tag, limit, and the set
 // of fill blocks.
 ghost use mathlib.Core.Path.{_≡_};
-ghost use Rattle.watch_rule.specs.Promises.{closingKind};
+ghost use Rattle.watch_rule.specs.Rules.{closingKind};
 ghost use Rattle.watch.specs.Verdicts.{numberOf, kindOf, fillOf, countOf};
 ghost use Rattle.watch.specs.Rules.{beginOf, stepOf};
 ghost use Rattle.c_numbers.specs.Numbers.{upTo};

@@ -8,7 +8,8 @@ use mathlib.Core.List.{List}
 use Rattle.tag.specs.Tags.{tagOf}
 use Rattle.watch_bounds.specs.Bounds.{refusalOf}
 use Rattle.watch_bounds.specs.declared.Watch.{Watch}
-use Rattle.watch_bounds.proofs.LawsBounds.{accepted-for, to-ten, under}
+use Rattle.watch_bounds.proofs.LawsBounds.{accepted-for, to-ten}
+use Rattle.watch_bounds.proofs.KeepsNumbers.{under}
 use Rattle.watch_bounds.proofs.LawsSets.{below-later}
 use Rattle.watch.specs.Verdicts.{kindOf, fillOf, countOf}
 use Rattle.watch.specs.Fills.{filled}

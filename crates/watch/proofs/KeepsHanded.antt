@@ -20,7 +20,8 @@ use Rattle.tag.specs.Tags.{tagOf}
 use Rattle.watch_bounds.specs.Sets.{Has}
 use Rattle.watch_bounds.specs.Bounds.{refusalOf}
 use Rattle.watch_bounds.specs.declared.Watch.{Watch}
-use Rattle.watch_bounds.proofs.LawsBounds.{accepted-for, from-one, under}
+use Rattle.watch_bounds.proofs.LawsBounds.{accepted-for, from-one}
+use Rattle.watch_bounds.proofs.KeepsNumbers.{under}
 use Rattle.watch_bounds.proofs.LawsSets.{none-in-empty}
 use Rattle.watch.specs.Verdicts.{kindOf, fillOf, countOf}
 use Rattle.watch.specs.Fills.{isFill, filled}

@@ -15,8 +15,7 @@ use Rattle.ground.proofs.LawsTests.{never}
 use Rattle.calendar.specs.Leaps.{goodList}
 use Rattle.tag.specs.Tags.{tagOf, inBounds, goodTag}
 use Rattle.time.specs.Times.{between}
-use Rattle.watch_rule.specs.Rules.{lastOfScan, ruleOf}
-use Rattle.watch_rule.specs.Promises.{closingKind}
+use Rattle.watch_rule.specs.Rules.{lastOfScan, ruleOf, closingKind}
 use Rattle.watch_rule.specs.declared.Closing.{Closing}
 use Rattle.watch_rule.specs.declared.Closing.the-variants.{ClockBack, Late, Broken, Complete}
 use Rattle.watch_rule.specs.declared.Rule.{Rule}

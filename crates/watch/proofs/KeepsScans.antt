@@ -21,8 +21,7 @@ use Rattle.tag.specs.declared.Tag.{Tag}
 use Rattle.time.specs.declared.count.Elapsed.{Elapsed}
 use Rattle.time.proofs.LawsTimes.{at-least-zero, at-most, not-back, not-late, answer, counted}
 use Rattle.tag.proofs.KeepsTags.{good}
-use Rattle.watch_rule.specs.Rules.{lastOfScan}
-use Rattle.watch_rule.specs.Promises.{closingKind}
+use Rattle.watch_rule.specs.Rules.{lastOfScan, closingKind}
 use Rattle.watch_rule.specs.declared.Closing.{Closing}
 use Rattle.watch_bounds.specs.Bounds.{longestWait, badLimit, badExpected, badFill, badLast, refusalOf}
 use Rattle.watch_bounds.specs.Promises.{Sound}

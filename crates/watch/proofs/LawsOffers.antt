@@ -19,7 +19,8 @@ use Rattle.tag.proofs.LawsTags.{good-bounds}
 use Rattle.watch_rule.specs.Rules.{lastOfScan}
 use Rattle.watch_bounds.specs.Bounds.{badLimit, badExpected, badFill, badLast, lent, offered, grounds, refusalOf}
 use Rattle.watch_bounds.specs.declared.Watch.{Watch}
-use Rattle.watch_bounds.proofs.LawsBounds.{accepted-for, to-ten, under}
+use Rattle.watch_bounds.proofs.LawsBounds.{accepted-for, to-ten}
+use Rattle.watch_bounds.proofs.KeepsNumbers.{under}
 use Rattle.watch.specs.Verdicts.{numberOf}
 use Rattle.watch.specs.Fills.{filled}
 use Rattle.watch.specs.Rules.{idle, opening, stepOf}

@@ -1,7 +1,7 @@
 -- What the cases of a verdict mean: the number given, what the offer did, as a number too, and which blocks were fill.
 -- Assumes nothing.
 use Prim.Native.Nat.{ℕ}
-use Rattle.watch_rule.specs.Promises.{closingKind}
+use Rattle.watch_rule.specs.Rules.{closingKind}
 use Rattle.watch.specs.declared.Verdict.{Verdict}
 use Rattle.watch.specs.declared.Verdict.the-variants.{Refused, Stray, Opened, Kept, Closed}
 

@@ -49,6 +49,10 @@ earlier w h b i = by (w .opened) (below-all (w .fill) (bounding w) b (ltb-true (
     by true l = (refl, l)
     by false l = absurd (omega arith)
 
+-- an open watch's set, as a number
+pub under : (w : Watch) → badFill w ≡ false → w .opened ≡ true → w .fill < 2 ^ w .expected
+under w h o = all-below (w .fill) (w .expected) (λ b i. earlier w h b i .1)
+
 bounded : (w : Watch) → Earlier w → badFill w ≡ false
 bounded w f = ap not (lt-ltb (w .fill) (2 ^ bounding w) (all-below (w .fill) (bounding w) (λ b h. by b (f b h))))
   where

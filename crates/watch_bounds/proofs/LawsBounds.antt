@@ -2,12 +2,12 @@
 -- is good.
 -- Assumes nothing.
 use mathlib.Core.Path.{_≡_, refl, sym, ap, _∙_}
-use Prim.Native.Nat.{ℕ, _^_, _≤_, _<_}
+use Prim.Native.Nat.{ℕ, _≤_}
 use mathlib.Core.Bool.{Bool, true, false, not, _&&_, _||_}
 use mathlib.Core.List.{List}
 use native.Mathlib.Omega.{arith}
 use lib.Dec.{eqb, ltb}
-use borrow.Author.Tests.{ltb-true, ltb-false, not-false, eqb-true, ne-eqb}
+use borrow.Author.Tests.{ltb-false, not-false, eqb-true, ne-eqb}
 use Rattle.ground.specs.Grounds.{firstOf}
 use Rattle.calendar.specs.Leaps.{goodList}
 use Rattle.tag.specs.Tags.{tagOf, goodTag, readBy}
@@ -60,10 +60,6 @@ to-ten w h o = ltb-false lastOfScan (w .expected) (neither (w .opened) (ltb (w .
 
 pub bounding-to-ten : (w : Watch) → (w .opened ≡ true → w .expected ≤ 10) → bounding w ≤ 10
 bounding-to-ten w h = either (λ (k : ℕ). k ≤ 10) (w .opened) h (λ _. omega arith)
-
--- Its set, below the set of the expected block alone.
-pub under : (w : Watch) → badFill w ≡ false → w .opened ≡ true → w .fill < 2 ^ w .expected
-under w h o = ltb-true (w .fill) (2 ^ w .expected) (ap (λ (t : Bool). ltb (w .fill) (2 ^ pick t (w .expected) 0)) (sym o) ∙ not-false (ltb (w .fill) (2 ^ bounding w)) h)
 
 pub accepted-for : (leaps : List ℕ) (w : Watch) (b : ℕ) (s : List ℕ) → refusalOf leaps w b s ≡ 0 → Passed leaps w b (goodTag leaps s)
 unfolding refusalOf

@@ -5,16 +5,8 @@ use Prim.Native.Nat.{ℕ}
 use lib.IntN.{ℤ, pos}
 use lib.Signed.{_≤ℤ_, _<ℤ_}
 use Rattle.watch_rule.specs.Rules.{ruleOf}
-use Rattle.watch_rule.specs.declared.Closing.{Closing}
 use Rattle.watch_rule.specs.declared.Closing.the-variants.{ClockBack, Late, Broken, Complete}
 use Rattle.watch_rule.specs.declared.Rule.the-variants.{Keeps, Closes}
-
--- How a scan was closed: 4 as clock back, 5 as late, 6 as broken, 7 as complete.
-abbrev pub closingKind : Closing → ℕ
-closingKind ClockBack = 4
-closingKind Late = 5
-closingKind Broken = 6
-closingKind Complete = 7
 
 -- An offer d ms after the last tag: the clock goes back, or the wait is longer than the limit, whatever the block; else the block decides.
 pub record OpenRules (expected limit : ℕ) : Type 0 where

@@ -6,9 +6,17 @@ use lib.Dec.{eqb}
 use lib.IntN.{ℤ, pos}
 use lib.Signed.{ltZ}
 use Rattle.ground.specs.Choice.{pick}
+use Rattle.watch_rule.specs.declared.Closing.{Closing}
 use Rattle.watch_rule.specs.declared.Closing.the-variants.{ClockBack, Late, Broken, Complete}
 use Rattle.watch_rule.specs.declared.Rule.{Rule}
 use Rattle.watch_rule.specs.declared.Rule.the-variants.{Keeps, Closes}
+
+-- How a scan was closed: 4 as clock back, 5 as late, 6 as broken, 7 as complete.
+abbrev pub closingKind : Closing → ℕ
+closingKind ClockBack = 4
+closingKind Late = 5
+closingKind Broken = 6
+closingKind Complete = 7
 
 -- The last block of a scan, which is the last that a watch expects.
 abbrev pub lastOfScan : ℕ

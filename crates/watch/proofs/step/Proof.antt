@@ -13,7 +13,8 @@ use Rattle.tag.specs.Tags.{tagOf}
 use Rattle.tag.specs.declared.Tag.{Tag}
 use Rattle.watch.specs.Rules.{onGood, stepOf}
 use Rattle.watch_bounds.specs.declared.Watch.{Watch}
-use Rattle.watch_bounds.proofs.LawsBounds.{accepted-for, to-ten, under, lent-number, offered-number, no-number, tag-of}
+use Rattle.watch_bounds.proofs.LawsBounds.{accepted-for, to-ten, lent-number, offered-number, no-number, tag-of}
+use Rattle.watch_bounds.proofs.KeepsNumbers.{under}
 use Rattle.watch.specs.declared.Stepped.{Stepped}
 use Rattle.watch.specs.declared.Verdict.the-variants.{Refused}
 use Rattle.watch.proofs.LawsSteps.{stepped}
