@@ -2,3 +2,4 @@ pub mod LawsChoice
 pub mod LawsGrounds
 pub mod LawsTests
 pub mod LawsWalk
+pub mod LawsFilling

@@ -25,7 +25,7 @@ pub const CHECK_DISAGREES: u8 = 10;
 pub const FILL_NOT_ZERO: u8 = 11;
 
 pub const BAD_TAG: u8 = 12;
-// A block without records, a record that it has not, or an open watch that expects no block from 1 to 10.
+// A block without records, a record that it has not, an open watch that expects no block from 1 to 10, or a detector that there is not.
 pub const NO_RECORD: u8 = 13;
 
 pub const LARGE_WORD: u8 = 14;
@@ -44,3 +44,9 @@ pub const BAD_LEAP_DAYS: u8 = 19;
 
 // A watch with a set of fill blocks that has the expected block or a later one, or that is not empty while idle.
 pub const BAD_FILL: u8 = 20;
+
+// A bit that is 1 behind those of the Sounder's detectors.
+pub const SPARE_BIT: u8 = 21;
+
+// A frame field of a Sounder documentation block that is out of its range.
+pub const OUT_OF_RANGE: u8 = 22;
