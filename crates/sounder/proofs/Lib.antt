@@ -1,0 +1,3 @@
+pub mod LawsFrame
+pub mod LawsWords
+pub mod LawsJudging
