@@ -1,4 +1,5 @@
-/* rahmisve.h: GVAR blocks, recordings and salvage of them, CDA time tags and the scan watch, from C. This file is the manual.
+/* rahmisve.h: GVAR blocks, recordings and salvage of them, CDA time tags, the Sounder's status and the scan watch, from C. This file is
+ * the manual.
  *
  * The archive librahmisve.a holds proved code: for every input whatever, a function below answers what its definition says, reads and
  * writes nothing outside the buffers lent to it, and returns. docs/LINKING.md says how to make the archive, how to link it and what it
@@ -7,8 +8,8 @@
  * VERSION. RAHMISVE_VERSION is the version of this file, rahmisve_version() that of the archive. Every change of a signature, a size or a
  * place raises it, every new or changed number of an answer, a verdict or a find, and every change of what a block's row allows or its
  * records hold: 2 gave block 2 its fourth record in version 3 of the format, 3 brought answer 18, 4 the leap days and answer 19, 5 the
- * watch's set of fill blocks and answer 20. Where `rahmisve_version() != RAHMISVE_VERSION` the program was built with the header of another
- * archive, and nothing else below may be called.
+ * watch's set of fill blocks and answer 20, 6 the Sounder's status and answers 21 and 22. Where `rahmisve_version() != RAHMISVE_VERSION`
+ * the program was built with the header of another archive, and nothing else below may be called.
  *
  * ANSWERS. A function returns its answer: 0, which is accepted, or the number of a refusal, each named once in the list below. Of several
  * grounds the first one decides, in the order that stands with the function. Three functions refuse nothing and return something else:
@@ -16,9 +17,9 @@
  * but verdict 0 of a watch is a refused offer, and found 0 is the end of a recording.
  *
  * PLACES AND ROOMS. What else belongs to an answer goes to the places that the caller lends for it: `header`, `word_count`, `start` and
- * the like. A place is written on every call, on a refusal with zeros; only `seq` of rahmisve_line has its number then too. A room, which
- * is a `room`, the `field` that rahmisve_put_words fills, or the `recording`, `report` and `scratch` of rahmisve_salvage, is written only
- * by an accepted call; a refusal leaves it, and a watch, as it was, to the bit.
+ * the like. A place is written on every call, on a refusal with zeros; only `seq` of rahmisve_line has its number then too, and the word
+ * that answer 22 speaks of is named. A room, which is a `room`, the `field` that rahmisve_put_words fills, or the `recording`, `report` and
+ * `scratch` of rahmisve_salvage, is written only by an accepted call; a refusal leaves it, and a watch, as it was, to the bit.
  *
  * MEMORY. Everything lent belongs to the caller, before and after. The library keeps no pointer, allocates nothing, keeps nothing
  * between calls, has no variables of its own, does no input or output and does not touch errno. So calls may be made from several
@@ -50,7 +51,7 @@ extern "C" {
 
 /* ---- Version -------------------------------------------------------------------------------------------------------------------- */
 
-#define RAHMISVE_VERSION 5
+#define RAHMISVE_VERSION 6
 
 /* The version of the archive that is linked. */
 uint32_t rahmisve_version(void);
@@ -78,14 +79,16 @@ uint32_t rahmisve_version(void);
     ANSWER(CHECK_DISAGREES, 10, "the check word is not that of the field") \
     ANSWER(FILL_NOT_ZERO, 11, "a bit behind the last word is 1") \
     ANSWER(BAD_TAG, 12, "a bad time tag") /* one not of eight bytes too; an open watch whose last tag is bad */ \
-    ANSWER(NO_RECORD, 13, "no such record, or no such expected block") /* an open watch that expects no block 1 to 10 */ \
+    ANSWER(NO_RECORD, 13, "no such record, detector or expected block") /* an open watch that expects no block 1 to 10 */ \
     ANSWER(LARGE_WORD, 14, "a word too large for its size") \
     ANSWER(OTHER_FIELD, 15, "a field of a recording with another tag than 1") \
     ANSWER(LONG_LIMIT, 16, "a waiting limit above 3,600,000 ms") \
     ANSWER(OFF_BOUNDARY, 17, "a check word off its 16-bit boundary") /* which no block has: every field is a multiple of 16 bits */ \
     ANSWER(NO_BLOCK, 18, "no start has an acceptable block") \
     ANSWER(BAD_LEAP_DAYS, 19, "more than 64 leap days, two that do not rise, or one that no year has") \
-    ANSWER(BAD_FILL, 20, "a set of fill blocks that the watch cannot have") /* one not below the expected block; any, while idle */
+    ANSWER(BAD_FILL, 20, "a set of fill blocks that the watch cannot have") /* one not below the expected block; any, while idle */ \
+    ANSWER(SPARE_BIT, 21, "a bit behind those of the Sounder's detectors is 1") \
+    ANSWER(OUT_OF_RANGE, 22, "a frame field out of its range") /* its first word is named; the eastern one too, if west is above it */
 
 /* RAHMISVE_ANSWER_ACCEPTED, RAHMISVE_ANSWER_NO_HEADER and so on, and how many numbers there are. */
 #define RAHMISVE_CONSTANT(name, number, text) RAHMISVE_ANSWER_##name = number,
@@ -206,6 +209,69 @@ uint8_t rahmisve_write_tag(const uint32_t time[RAHMISVE_TIME_NUMBERS], const uin
  * Refusals: 19 for the list, then 12. */
 uint8_t rahmisve_elapsed(const uint8_t *from, size_t from_length, const uint8_t *to, size_t to_length, const uint32_t *leap_days,
                          size_t leap_days_length, int64_t *ms);
+
+/* ---- Sounder status ------------------------------------------------------------------------------------------------------------- */
+
+#define RAHMISVE_SOUNDER_WORDS 8040     /* words of a Sounder documentation block, each of eight bits */
+#define RAHMISVE_SOUNDER_CHANNELS 19    /* channels of the Sounder, from 1 */
+#define RAHMISVE_SOUNDER_DETECTORS 4    /* detectors of a channel, from 1 */
+#define RAHMISVE_SOUNDER_NUMBERS 13     /* a status: thirteen numbers in a row */
+#define RAHMISVE_SOUNDER_TAGS 15        /* time tags of such a block */
+#define RAHMISVE_SOUNDER_TAG_NUMBERS 8  /* what is said of one: its answer, and a time of seven numbers behind it */
+
+/* Places in a status. Counts and fields are numbers of two words, as the block has them. */
+#define RAHMISVE_SOUNDER_WORD 0           /* with answer 22 the first word of the field, 181, 183 and so on to 193; else 0 */
+#define RAHMISVE_SOUNDER_SUSPECTS 1       /* how many detectors are suspect, 0 to 76 */
+#define RAHMISVE_SOUNDER_CHANNEL 2        /* the first suspect detector: its channel, 1 to 19, or 0 where none is suspect */
+#define RAHMISVE_SOUNDER_DETECTOR 3       /* and its number in that channel, 1 to 4, or 0 */
+#define RAHMISVE_SOUNDER_RAW_BLOCKS 4     /* words 43-44, SRBCT: how many blocks of raw data the scan has; any number */
+#define RAHMISVE_SOUNDER_BLOCKS 5         /* words 45-46, SGBCT: how many blocks 11 the scan has, this one too; any number */
+#define RAHMISVE_SOUNDER_SCAN_OF_FRAME 6  /* words 181-182, RSSCT: the scan, counted from the start of the frame; 1 to 396 */
+#define RAHMISVE_SOUNDER_SCAN 7           /* words 183-184, ASSCT: the scan, counted from the north; 1 to 396 */
+#define RAHMISVE_SOUNDER_SCAN_NORTH 8     /* words 185-186, SNSLN: the northernmost line of the scan; 1 to 1579 */
+#define RAHMISVE_SOUNDER_FRAME_WEST 9     /* words 187-188, SWFPX: the westernmost pixel of the frame; 1 to 1754, not above the next */
+#define RAHMISVE_SOUNDER_FRAME_EAST 10    /* words 189-190, SEFPX: the easternmost pixel of the frame; 5 to 1758 */
+#define RAHMISVE_SOUNDER_FRAME_NORTH 11   /* words 191-192, SNFLN: the northernmost line of the frame; 1 to 1579 */
+#define RAHMISVE_SOUNDER_FRAME_SOUTH 12   /* words 193-194, SSFLN: the southernmost line of the frame; 4 to 1582 */
+
+/* Places in what is said of a tag. */
+#define RAHMISVE_SOUNDER_TAG_ANSWER 0 /* 0, or 12 for a bad tag, with zeros behind it */
+#define RAHMISVE_SOUNDER_TAG_TIME 1   /* a time: RAHMISVE_SOUNDER_TAG_TIME + RAHMISVE_TIME_YEAR is where its year stands */
+
+/* The tags in the order of the block, eight words each from word 59 on. */
+#define RAHMISVE_SOUNDER_TAG_CURRENT 0         /* TSCURR: current SPS time */
+#define RAHMISVE_SOUNDER_TAG_LINE_START 1      /* TSCLS: the scan line starts */
+#define RAHMISVE_SOUNDER_TAG_LINE_END 2        /* TSCLE: the scan line ends */
+#define RAHMISVE_SOUNDER_TAG_SET_AT_START 3    /* TCSLS: the calibration set at the line's start */
+#define RAHMISVE_SOUNDER_TAG_SET_AT_END 4      /* TCSLE: the calibration set at the line's end */
+#define RAHMISVE_SOUNDER_TAG_PRIORITY_FRAME 5  /* TSPFS: the priority frame starts */
+#define RAHMISVE_SOUNDER_TAG_NORMAL_FRAME 6    /* TSNFS: the normal frame starts */
+#define RAHMISVE_SOUNDER_TAG_SPACELOOK 7       /* TSSPC: last spacelook calibration */
+#define RAHMISVE_SOUNDER_TAG_ECAL 8            /* TSECL: last electronic calibration */
+#define RAHMISVE_SOUNDER_TAG_BLACKBODY 9       /* TSBBC: last blackbody calibration */
+#define RAHMISVE_SOUNDER_TAG_STAR_SENSE 10     /* TSSTR: last star sense */
+#define RAHMISVE_SOUNDER_TAG_RANGING 11        /* TLRAN: last ranging measurement */
+#define RAHMISVE_SOUNDER_TAG_VISIBLE_TABLES 12 /* TSVIT: the normalization tables used */
+#define RAHMISVE_SOUNDER_TAG_LIMITS 13         /* TSCLMT: the limits in force */
+#define RAHMISVE_SOUNDER_TAG_ORBIT 14          /* TSONA: the orbit and attitude set in force */
+
+/* Judges a Sounder documentation block, which comes as a block 11 with words of eight bits. Which block 11 is one, the host finds out,
+ * since the SAD ID is not read here; docs/LINKING.md says how, and examples/sounder.c does it.
+ * Accepted, `status` says how many of the 76 detectors are suspect and which one is the first, and has the counts and the frame fields;
+ * tags[k] says of each tag whether it is good by these leap days, and which time it is. A bad tag refuses itself and nothing else, so look
+ * at its answer; on a refusal of the block all are zeros.
+ * Refusals: 8 where there are not RAHMISVE_SOUNDER_WORDS words, 14 for a word above 255, 21 for a bit that is 1 among the last four of
+ * word 42, 22 for a frame field out of its range, the lowest of them, 19 for the list. A western pixel above the eastern one is the eastern
+ * field out of its range, 189. */
+uint8_t rahmisve_sounder_status(const uint16_t *words, size_t words_length, const uint32_t *leap_days, size_t leap_days_length,
+                                uint32_t status[RAHMISVE_SOUNDER_NUMBERS],
+                                uint32_t tags[RAHMISVE_SOUNDER_TAGS][RAHMISVE_SOUNDER_TAG_NUMBERS]);
+
+/* Whether one detector of such a block is suspect: `suspect` is 1 where it is. With answer 22 `word` is the first word of the frame field,
+ * as status[RAHMISVE_SOUNDER_WORD] is above; else it is 0.
+ * Refusals: those above in their order, then 13 for a channel outside 1 to 19 or a detector outside 1 to 4. */
+uint8_t rahmisve_sounder_suspect(const uint16_t *words, size_t words_length, const uint32_t *leap_days, size_t leap_days_length,
+                                 uint32_t channel, uint32_t detector, uint32_t *word, uint8_t *suspect);
 
 /* ---- The scan watch ------------------------------------------------------------------------------------------------------------- */
 

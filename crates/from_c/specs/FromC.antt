@@ -187,7 +187,7 @@ pub record FromC : Type 0 where
       × (recorded ≡ recordingAfter (now input) (now recording) r w) × (reported ≡ reportAfter (now input) m (now report) w)
       × (read ≡ scratchAfter (now input) m r (now scratch)))
   -- this interface
-  pub version : Every rahmisve_version.ended rahmisve_version.Reads.Learnt (λ _ _ answer _. answer ≡ 5)
+  pub version : Every rahmisve_version.ended rahmisve_version.Reads.Learnt (λ _ _ answer _. answer ≡ 6)
   -- what a block is made of
   pub check : Every rahmisve_check_word.ended rahmisve_check_word.Reads.Learnt (λ _ (message, _) answer _. answer ≡ checkWord (now message))
   -- 6: a size outside 1 to 16. 8: the field has fewer bits. 9: less room

@@ -94,6 +94,26 @@ extern "C" {
         leap_days_length: usize,
         ms: *mut i64,
     ) -> u8;
+    /// Judges a Sounder documentation block: its suspect detectors, counts and frame fields, and each of its tags.
+    pub fn rahmisve_sounder_status(
+        words: *const u16,
+        words_length: usize,
+        leap_days: *const u32,
+        leap_days_length: usize,
+        status: *mut [u32; 13],
+        tags: *mut [[u32; 8]; 15],
+    ) -> u8;
+    /// Whether one detector of such a block is suspect.
+    pub fn rahmisve_sounder_suspect(
+        words: *const u16,
+        words_length: usize,
+        leap_days: *const u32,
+        leap_days_length: usize,
+        channel: u32,
+        detector: u32,
+        word: *mut u32,
+        suspect: *mut u8,
+    ) -> u8;
     /// Begins an idle watch.
     pub fn rahmisve_watch_begin(limit: u32, watch: *mut [u32; 11]) -> u8;
     /// Offers a block, its data valid word and its tag to a watch.
