@@ -95,7 +95,7 @@ static struct {
     size_t count[7];
     int64_t ms[3];
     uint64_t seq[3];
-    uint32_t time[9], fill[5];
+    uint32_t time[9], fill[5], status[15], tags[17][8];
     uint8_t byte[11], header[30], copies[5], holds[6], tag[10];
 } at;
 
@@ -892,6 +892,282 @@ static void elapsed(void)
     told("elapsed: its refusals give zero, and that of the list comes first");
 }
 
+/* ---- the Sounder's status ------------------------------------------------------------------------------------------------------- */
+
+/* A block at an address that is no multiple of 4, with something around it, and what is to be said of it. */
+static uint16_t *const status_words = words_here + 1;
+static uint32_t status_wanted[13], tags_wanted[15][8];
+
+static void put_pair(size_t word, uint32_t number)
+{
+    status_words[word - 1] = (uint16_t)(number >> 8);
+    status_words[word] = (uint16_t)(number & 255);
+}
+
+/* Tag k of the block and what is to be said of it, 12 or the time that is at hand. */
+static void put_tag(unsigned k, unsigned answer)
+{
+    for (unsigned i = 0; i < 8; i++)
+        status_words[58 + 8 * k + i] = tag_here[i];
+    memset(tags_wanted[k], 0, sizeof tags_wanted[k]);
+    tags_wanted[k][RAHMISVE_SOUNDER_TAG_ANSWER] = answer;
+    if (answer == 0)
+        memcpy(tags_wanted[k] + RAHMISVE_SOUNDER_TAG_TIME, time_here, sizeof time_here);
+}
+
+/* A good block with good tags, of which no detector is suspect; its numbers differ from one another. */
+static void a_status(void)
+{
+    static const uint32_t wanted[13] = {0, 0, 0, 0, 263, 65533, 12, 100, 397, 600, 1200, 349, 598};
+    stir_to(words_here, 24000, 8);
+    memcpy(status_wanted, wanted, sizeof wanted);
+    memset(status_words + 32, 0, 20);
+    put_pair(43, wanted[RAHMISVE_SOUNDER_RAW_BLOCKS]);
+    put_pair(45, wanted[RAHMISVE_SOUNDER_BLOCKS]);
+    for (unsigned k = 0; k < 7; k++)
+        put_pair(181 + 2 * k, wanted[6 + k]);
+    for (unsigned k = 0; k < 15; k++) {
+        at_time(1994 + k, 10 + k, k, 20 + k, 40 + k, 700 + k);
+        put_tag(k, 0);
+    }
+}
+
+/* Judges so many of the words by the days that are lent. */
+static unsigned judged(size_t length)
+{
+    memcpy(was_words, words_here, sizeof was_words);
+    fresh();
+    unsigned number = rahmisve_sounder_status(length ? status_words : NULL, length, days, days_length, at.status + 1, at.tags + 1);
+    IS(ones(at.status, 4) && ones(at.status + 14, 4) && ones(at.tags, 32) && ones(at.tags + 16, 32));
+    IS(memcmp(words_here, was_words, sizeof was_words) == 0 && (days_length == 0 || list_is_kept()));
+    return number;
+}
+
+/* Asks for a detector of that block. */
+static unsigned asked(size_t length, uint32_t channel, uint32_t detector)
+{
+    memcpy(was_words, words_here, sizeof was_words);
+    fresh();
+    unsigned number = rahmisve_sounder_suspect(length ? status_words : NULL, length, days, days_length, channel, detector, &at.fill[1],
+                                               &at.byte[1]);
+    IS(ones(at.fill, 4) && ones(at.fill + 2, 4) && at.byte[0] == 0xFF && at.byte[2] == 0xFF);
+    IS(memcmp(words_here, was_words, sizeof was_words) == 0 && (days_length == 0 || list_is_kept()));
+    return number;
+}
+
+/* The block is accepted, and every number is the wanted one. */
+static void status_is(void)
+{
+    IS(judged(8040) == 0);
+    IS(memcmp(at.status + 1, status_wanted, sizeof status_wanted) == 0 && memcmp(at.tags + 1, tags_wanted, sizeof tags_wanted) == 0);
+}
+
+/* The same of the detectors: whether each is suspect, how many are, and which is the first. */
+static void suspects_are(const uint8_t suspect[76])
+{
+    unsigned count = 0, first = 76;
+    for (unsigned k = 76; k-- > 0;)
+        if (suspect[k])
+            count++, first = k;
+    status_wanted[RAHMISVE_SOUNDER_SUSPECTS] = count;
+    status_wanted[RAHMISVE_SOUNDER_CHANNEL] = count ? first / 4 + 1 : 0;
+    status_wanted[RAHMISVE_SOUNDER_DETECTOR] = count ? first % 4 + 1 : 0;
+    status_is();
+    for (unsigned k = 0; k < 76; k++)
+        IS(asked(8040, k / 4 + 1, k % 4 + 1) == 0 && at.byte[1] == suspect[k] && at.fill[1] == 0);
+}
+
+/* Both calls refuse the block, whatever is asked for, and give zeros, but for the word. */
+static void not_judged(unsigned number, uint32_t word, size_t length)
+{
+    static const uint32_t detectors[][2] = {{1, 1}, {19, 4}, {0, 0}, {20, 5}};
+    IS(judged(length) == number && at.status[1 + RAHMISVE_SOUNDER_WORD] == word);
+    IS(zeros(at.status + 2, 48) && zeros(at.tags + 1, 480));
+    for (int i = 0; i < 4; i++)
+        IS(asked(length, detectors[i][0], detectors[i][1]) == number && at.fill[1] == word && at.byte[1] == 0);
+}
+
+static void sounder_status(void)
+{
+    static const unsigned tags[15] = {
+        RAHMISVE_SOUNDER_TAG_CURRENT,        RAHMISVE_SOUNDER_TAG_LINE_START, RAHMISVE_SOUNDER_TAG_LINE_END,
+        RAHMISVE_SOUNDER_TAG_SET_AT_START,   RAHMISVE_SOUNDER_TAG_SET_AT_END, RAHMISVE_SOUNDER_TAG_PRIORITY_FRAME,
+        RAHMISVE_SOUNDER_TAG_NORMAL_FRAME,   RAHMISVE_SOUNDER_TAG_SPACELOOK,  RAHMISVE_SOUNDER_TAG_ECAL,
+        RAHMISVE_SOUNDER_TAG_BLACKBODY,      RAHMISVE_SOUNDER_TAG_STAR_SENSE, RAHMISVE_SOUNDER_TAG_RANGING,
+        RAHMISVE_SOUNDER_TAG_VISIBLE_TABLES, RAHMISVE_SOUNDER_TAG_LIMITS,     RAHMISVE_SOUNDER_TAG_ORBIT,
+    };
+    const uint32_t *got = at.status + 1;
+    a_status();
+    status_words[32] = 0x04;
+    status_wanted[RAHMISVE_SOUNDER_SUSPECTS] = 1;
+    status_wanted[RAHMISVE_SOUNDER_CHANNEL] = status_wanted[RAHMISVE_SOUNDER_DETECTOR] = 2;
+    status_is();
+    IS(got[RAHMISVE_SOUNDER_WORD] == 0 && got[RAHMISVE_SOUNDER_SUSPECTS] == 1 && got[RAHMISVE_SOUNDER_CHANNEL] == 2);
+    IS(got[RAHMISVE_SOUNDER_DETECTOR] == 2 && got[RAHMISVE_SOUNDER_RAW_BLOCKS] == 263 && got[RAHMISVE_SOUNDER_BLOCKS] == 65533);
+    IS(got[RAHMISVE_SOUNDER_SCAN_OF_FRAME] == 12 && got[RAHMISVE_SOUNDER_SCAN] == 100 && got[RAHMISVE_SOUNDER_SCAN_NORTH] == 397);
+    IS(got[RAHMISVE_SOUNDER_FRAME_WEST] == 600 && got[RAHMISVE_SOUNDER_FRAME_EAST] == 1200);
+    IS(got[RAHMISVE_SOUNDER_FRAME_NORTH] == 349 && got[RAHMISVE_SOUNDER_FRAME_SOUTH] == 598);
+    for (unsigned k = 0; k < 15; k++)
+        IS(tags[k] == k && at.tags[1 + k][RAHMISVE_SOUNDER_TAG_TIME + RAHMISVE_TIME_YEAR] == 1994 + k);
+    lend_many(MOST_DAYS);
+    status_is();
+    lend_none();
+    for (uint32_t number = 0; number <= 65535; number += 21845) {
+        put_pair(43, status_wanted[RAHMISVE_SOUNDER_RAW_BLOCKS] = number);
+        put_pair(45, status_wanted[RAHMISVE_SOUNDER_BLOCKS] = 65535 - number);
+        status_is();
+    }
+    told("sounder_status: thirteen numbers and fifteen tags, each in its place, and counts as they stand");
+}
+
+static void detectors_of_the_sounder(void)
+{
+    uint8_t suspect[76];
+    a_status();
+    memset(suspect, 0, sizeof suspect);
+    suspects_are(suspect);
+    for (unsigned k = 0; k < 76; k++) {
+        memset(status_words + 32, 0, 20);
+        memset(suspect, 0, sizeof suspect);
+        status_words[32 + k / 8] = (uint16_t)(0x80 >> k % 8);
+        suspect[k] = 1;
+        suspects_are(suspect);
+    }
+    told("sounder_suspect: each detector by its bit, channel after channel, and no other");
+    for (unsigned drawn = 1; drawn < 40; drawn++) {
+        uint32_t state = drawn;
+        for (unsigned k = 0; k < 76; k++) {
+            state = state * 1664525 + 1013904223;
+            suspect[k] = drawn == 1 || (state >> 16) % (drawn % 13 + 1) == 0;
+            if (k % 8 == 0)
+                status_words[32 + k / 8] = 0;
+            status_words[32 + k / 8] = (uint16_t)(status_words[32 + k / 8] | (suspect[k] ? 0x80 >> k % 8 : 0));
+        }
+        suspects_are(suspect);
+    }
+    told("sounder_status: as many are suspect as are asked for one by one, and the first of them is the first");
+}
+
+static void ranges_of_the_frame(void)
+{
+    static const uint32_t ranges[7][2] = {{1, 396}, {1, 396}, {1, 1579}, {1, 1754}, {5, 1758}, {1, 1579}, {4, 1582}};
+    for (unsigned k = 0; k < 7; k++) {
+        const uint32_t least = ranges[k][0], most = ranges[k][1], outside[] = {0, least - 1, most + 1, 65535};
+        const uint32_t word = 181 + 2 * k;
+        a_status();
+        put_pair(187, status_wanted[RAHMISVE_SOUNDER_FRAME_WEST] = 5);
+        put_pair(189, status_wanted[RAHMISVE_SOUNDER_FRAME_EAST] = 1758);
+        put_pair(word, status_wanted[6 + k] = least);
+        status_is();
+        put_pair(word, status_wanted[6 + k] = most);
+        status_is();
+        for (int i = 0; i < 4; i++) {
+            put_pair(word, outside[i]);
+            not_judged(RAHMISVE_ANSWER_OUT_OF_RANGE, word, 8040);
+        }
+    }
+    told("frame fields: both ends of each range are good, and what is outside is refused by the field's first word");
+}
+
+static void fields_of_the_frame(void)
+{
+    a_status();
+    put_pair(187, status_wanted[RAHMISVE_SOUNDER_FRAME_WEST] = 1200);
+    status_is();
+    put_pair(187, 1201);
+    not_judged(RAHMISVE_ANSWER_OUT_OF_RANGE, 189, 8040);
+    put_pair(187, 1755);
+    not_judged(RAHMISVE_ANSWER_OUT_OF_RANGE, 187, 8040);
+    a_status();
+    put_pair(191, status_wanted[RAHMISVE_SOUNDER_FRAME_NORTH] = 1579);
+    put_pair(193, status_wanted[RAHMISVE_SOUNDER_FRAME_SOUTH] = 4);
+    status_is();
+    told("frame fields: a west above its east is the eastern field's, equal ones are good, and north and south are not compared");
+    for (uint32_t word = 193; word >= 181; word -= 2) {
+        put_pair(word, 0);
+        not_judged(RAHMISVE_ANSWER_OUT_OF_RANGE, word, 8040);
+    }
+    told("frame fields: of several out of range the lowest is named");
+}
+
+static void tags_of_the_sounder(void)
+{
+    for (unsigned k = 0; k < 15; k++) {
+        a_status();
+        at_time(2016, 366, 23, 59, 60, k);
+        put_tag(k, RAHMISVE_ANSWER_BAD_TAG);
+        status_is();
+        lend_day(2016366);
+        put_tag(k, 0);
+        status_is();
+        lend_none();
+        memset(tag_here, 0, sizeof tag_here);
+        put_tag(k, RAHMISVE_ANSWER_BAD_TAG);
+        put_tag((k + 7) % 15, RAHMISVE_ANSWER_BAD_TAG);
+        status_is();
+        memcpy(tag_here, marked_tag, sizeof tag_here);
+        memcpy(time_here, marked_time, sizeof time_here);
+        put_tag(k, 0);
+        status_is();
+    }
+    told("sounder_status: a bad tag refuses itself and no other, second 60 goes by the list, and the flywheel mark is given");
+}
+
+static void judged_by_a_bad_list(void) { not_judged(RAHMISVE_ANSWER_BAD_LEAP_DAYS, 0, 8040); }
+
+/* A block with every ground for a refusal, mended one by one. */
+static void refused_of_the_sounder(void)
+{
+    a_status();
+    lend_day(0);
+    put_pair(193, 3);
+    status_words[41] = 0xFF;
+    status_words[8039] = 256;
+    not_judged(RAHMISVE_ANSWER_WRONG_LENGTH, 0, 0);
+    for (size_t length = 8039; length <= 8041; length += 2)
+        not_judged(RAHMISVE_ANSWER_WRONG_LENGTH, 0, length);
+    not_judged(RAHMISVE_ANSWER_LARGE_WORD, 0, 8040);
+    status_words[8039] = 255;
+    for (unsigned spare = 1; spare < 16; spare++) {
+        status_words[41] = (uint16_t)(0xF0 | spare);
+        not_judged(RAHMISVE_ANSWER_SPARE_BIT, 0, 8040);
+        status_words[41] = (uint16_t)spare;
+        not_judged(RAHMISVE_ANSWER_SPARE_BIT, 0, 8040);
+    }
+    status_words[41] = 0xF0;
+    not_judged(RAHMISVE_ANSWER_OUT_OF_RANGE, 193, 8040);
+    put_pair(193, 4);
+    with_bad_lists(judged_by_a_bad_list);
+    told("sounder_status and sounder_suspect: 8, 14, 21, 22 and 19 in this order, with zeros but for the word of 22");
+}
+
+/* Channels and detectors that there are not, some of which would be where they are cut to fit. */
+static void detectors_that_are_none(void)
+{
+    static const uint32_t none[] = {0, 20, 256 + 1, 65536 + 1, 0x80000001, UINT32_MAX};
+    a_status();
+    status_words[32] = 0xFF; /* channels 1 and 2 are suspect */
+    for (size_t i = 0; i < sizeof none / sizeof *none; i++) {
+        IS(asked(8040, none[i], 1) == RAHMISVE_ANSWER_NO_RECORD && at.byte[1] == 0 && at.fill[1] == 0);
+        IS(asked(8040, 1, none[i]) == RAHMISVE_ANSWER_NO_RECORD && at.byte[1] == 0 && at.fill[1] == 0);
+    }
+    IS(asked(8040, 1, 5) == RAHMISVE_ANSWER_NO_RECORD && at.byte[1] == 0 && at.fill[1] == 0);
+    told("sounder_suspect: last of all a channel or a detector that there is not is refused, of numbers too large for a byte too");
+}
+
+static void large_words_of_the_sounder(void)
+{
+    a_status();
+    for (size_t i = 0; i < 8040; i++) {
+        uint16_t was = status_words[i];
+        status_words[i] = (uint16_t)(i % 3 == 0 ? 65535 : i % 3 == 1 ? 256 : was + 256);
+        IS(judged(8040) == RAHMISVE_ANSWER_LARGE_WORD && zeros(at.status + 1, 52) && zeros(at.tags + 1, 480));
+        status_words[i] = was;
+    }
+    status_is();
+    told("sounder_status: a word above 255 is refused wherever it stands");
+}
+
 /* ---- the watch ------------------------------------------------------------------------------------------------------------------ */
 
 static uint32_t watch_room[13], *const watch = watch_room + 1;
@@ -1631,6 +1907,14 @@ int main(void)
     write_tag();
     leap_seconds();
     elapsed();
+    sounder_status();
+    detectors_of_the_sounder();
+    ranges_of_the_frame();
+    fields_of_the_frame();
+    tags_of_the_sounder();
+    refused_of_the_sounder();
+    detectors_that_are_none();
+    large_words_of_the_sounder();
     watch_begin();
     watch_offer();
     scan_over_a_leap_second();

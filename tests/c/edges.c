@@ -1,9 +1,9 @@
 /* edges: words out of fields and into fields that end where the memory ends, or begin where it begins, and the words do so too; then what
- * salvage is lent, in the same places, and leap days with the tags and the watch that they are lent with. No byte is read or written
- * beyond, or the program ends by a fault. Prints a line `ok - ..` or `not ok - ..` for each size of a word and each way, for each kind of
- * input, and for the lists.
- * edges taken | put | words | front | input | recording | entries | scratch | days | numbers: a call that is lent a byte, a word, an entry,
- * a day or a number of a watch more than there is, and therefore has to end by a fault. */
+ * salvage is lent, in the same places, leap days with the tags and the watch that they are lent with, and the words and the places of the
+ * Sounder's status. No byte is read or written beyond, or the program ends by a fault. Prints a line `ok - ..` or `not ok - ..` for each
+ * size of a word and each way, for each kind of input, for the lists and for the status.
+ * edges taken | put | words | front | input | recording | entries | scratch | days | numbers | block | counts | verdicts: a call that is
+ * lent a byte, a word, an entry, a day or a number of a watch or a status more than there is, and therefore has to end by a fault. */
 #define _DEFAULT_SOURCE
 #include <stdio.h>
 #include <string.h>
@@ -300,11 +300,64 @@ static void all_lists(void)
     all_good &= good;
 }
 
+/* ---- the Sounder's status */
+
+/* How much of the block, of its status and of what is said of its tags lies behind its memory: nothing, but where a fault is asked for. */
+static struct {
+    size_t words, numbers, tags;
+} behind;
+
+/* Puts a good block there, of which only the last detector is suspect; its tags are zeros, and bad. */
+static void put_status(uint16_t *words, size_t count)
+{
+    memset(words, 0, count * sizeof *words);
+    for (size_t word = 182; word <= 194; word += 2)
+        words[word - 1] = 5;
+    words[42 - 1] = 0x10;
+}
+
+/* Whether this is the answer to a block of so many words by so many leap days, and to a question for its last detector. All that is lent
+ * stands at an end of memory. */
+static int with_status(unsigned answer, int end, size_t count, uint32_t days)
+{
+    uint16_t *words = words_at(end, count - behind.words);
+    uint32_t *list = part_of(lists, end, days * sizeof *list);
+    uint32_t *status = part_of(reports, end, (RAHMISVE_SOUNDER_NUMBERS - behind.numbers) * sizeof *status);
+    uint32_t(*tags)[RAHMISVE_SOUNDER_TAG_NUMBERS] =
+        part_of(recordings, end, RAHMISVE_SOUNDER_TAGS * sizeof *tags - behind.tags * sizeof **tags);
+    uint32_t *word = part_of(fields, end, sizeof *word);
+    uint8_t *suspect = part_of(recordings, !end, sizeof *suspect);
+    int accepted = answer == RAHMISVE_ANSWER_ACCEPTED;
+    put_status(words, count - behind.words);
+    for (uint32_t i = 0; i < days; i++)
+        list[i] = (1950 + i) * 1000 + 181;
+    int good = rahmisve_sounder_status(words, count, list, days, status, tags) == answer;
+    good &= status[RAHMISVE_SOUNDER_SUSPECTS] == (accepted ? 1 : 0) && status[RAHMISVE_SOUNDER_FRAME_SOUTH] == (accepted ? 5 : 0);
+    for (int i = 0; i < RAHMISVE_SOUNDER_TAGS; i++)
+        good &= tags[i][RAHMISVE_SOUNDER_TAG_ANSWER] == (accepted ? RAHMISVE_ANSWER_BAD_TAG : 0);
+    good &= rahmisve_sounder_suspect(words, count, list, days, 19, 4, word, suspect) == answer;
+    return good & (*word == 0 && *suspect == accepted);
+}
+
+static void all_of_status(void)
+{
+    enum { WORDS = RAHMISVE_SOUNDER_WORDS, DAYS = RAHMISVE_MOST_LEAP_DAYS };
+    int good = 1;
+    for (int end = 0; end < 2; end++) {
+        good &= with_status(RAHMISVE_ANSWER_ACCEPTED, end, WORDS, 0) & with_status(RAHMISVE_ANSWER_ACCEPTED, end, WORDS, DAYS);
+        good &= with_status(RAHMISVE_ANSWER_WRONG_LENGTH, end, WORDS - 1, 0) & with_status(RAHMISVE_ANSWER_WRONG_LENGTH, end, WORDS + 1, 0);
+        good &= with_status(RAHMISVE_ANSWER_BAD_LEAP_DAYS, end, WORDS, DAYS + 1);
+    }
+    printf("%s - the Sounder's status, where memory ends, and where it begins\n", good ? "ok" : "not ok");
+    all_good &= good;
+}
+
 /* ---- more than there is */
 
 /* Whether it went well, which it cannot: words for a byte that is behind the memory or in front of it, or one word more than there are; or
  * salvage with the last of what it uses, a byte, a number or a word, behind the memory; or a tag with the last of its leap days there; or a
- * watch of ten numbers, as version 4 had it. */
+ * watch of ten numbers, as version 4 had it; or the Sounder's status with the last word of its block behind the memory, or the last number
+ * of a place. */
 static int lent_too_much(char what)
 {
     const uint16_t *words = words_at(1, 20);
@@ -333,6 +386,15 @@ static int lent_too_much(char what)
     case 'n':
         numbers_beyond = 1;
         return with_days(RAHMISVE_ANSWER_ACCEPTED, 1, 3);
+    case 'b':
+        behind.words = 1;
+        return with_status(RAHMISVE_ANSWER_ACCEPTED, 1, RAHMISVE_SOUNDER_WORDS, 0);
+    case 'c':
+        behind.numbers = 1;
+        return with_status(RAHMISVE_ANSWER_ACCEPTED, 1, RAHMISVE_SOUNDER_WORDS, 0);
+    case 'v':
+        behind.tags = 1;
+        return with_status(RAHMISVE_ANSWER_ACCEPTED, 1, RAHMISVE_SOUNDER_WORDS, 0);
     default:
         return rahmisve_put_words(words, 20, 10, bytes_at(0, 25) - 1, 25) == RAHMISVE_ANSWER_ACCEPTED;
     }
@@ -356,5 +418,6 @@ int main(int argc, char **argv)
     told_of_salvage(all_salvaged(RAHMISVE_MOST_WORDS), "the longest block among junk");
     told_of_salvage(all_stopped(68) & all_stopped(RAHMISVE_MOST_WORDS), "blocks that stop");
     all_lists();
+    all_of_status();
     return !all_good;
 }

@@ -10,8 +10,9 @@ static uint8_t stack[65536] __attribute__((aligned(16)));
 static uint8_t header[RAHMISVE_HEADER_BYTES], common[RAHMISVE_HEADER_BYTES], copies[RAHMISVE_COPY_MARKS], block[RAHMISVE_MOST_BYTES];
 static uint8_t one[4], text[RAHMISVE_LINE_BYTES], holds[RAHMISVE_IMAGER_MARKS], tag[RAHMISVE_TAG_BYTES], field[RAHMISVE_MOST_BYTES];
 static uint8_t recording[RAHMISVE_SALVAGE_BYTES(sizeof block)];
-static uint16_t words[RAHMISVE_MOST_WORDS];
+static uint16_t words[RAHMISVE_MOST_WORDS], documentation[RAHMISVE_SOUNDER_WORDS];
 static uint32_t time[RAHMISVE_TIME_NUMBERS], watch[RAHMISVE_WATCH_NUMBERS], days[RAHMISVE_MOST_LEAP_DAYS], fill[2];
+static uint32_t status[RAHMISVE_SOUNDER_NUMBERS], tags[RAHMISVE_SOUNDER_TAGS][RAHMISVE_SOUNDER_TAG_NUMBERS];
 static size_t bytes, count[3], report[RAHMISVE_SALVAGE_ENTRIES(sizeof block)][RAHMISVE_ENTRY_NUMBERS];
 static uint64_t seq;
 static int64_t ms;
@@ -28,6 +29,14 @@ static uint8_t parity_sounder(void) { return rahmisve_parity_sounder(words, RAHM
 static uint8_t write_tag(void) { return rahmisve_write_tag(time, days, RAHMISVE_MOST_LEAP_DAYS, tag); }
 static uint8_t read_tag(void) { return rahmisve_read_tag(tag, sizeof tag, days, RAHMISVE_MOST_LEAP_DAYS, time); }
 static uint8_t elapsed(void) { return rahmisve_elapsed(tag, sizeof tag, tag, sizeof tag, days, RAHMISVE_MOST_LEAP_DAYS, &ms); }
+static uint8_t sounder_status(void)
+{
+    return rahmisve_sounder_status(documentation, RAHMISVE_SOUNDER_WORDS, days, RAHMISVE_MOST_LEAP_DAYS, status, tags);
+}
+static uint8_t sounder_suspect(void)
+{
+    return rahmisve_sounder_suspect(documentation, RAHMISVE_SOUNDER_WORDS, days, RAHMISVE_MOST_LEAP_DAYS, 19, 4, fill, one);
+}
 static uint8_t watch_begin(void) { return rahmisve_watch_begin(500, watch); }
 static uint8_t watch_offer(void) /* the first opens a scan; each one behind it closes that, hands a set over and opens the next */
 {
@@ -49,10 +58,10 @@ static uint8_t put_words(void) { return rahmisve_put_words(words, 68, 10, field,
 
 #define CALL(name) {"rahmisve_" #name, name}
 static const struct { const char *name; uint8_t (*call)(void); } calls[] = {
-    CALL(version),       CALL(write),          CALL(read),      CALL(plan),       CALL(record),     CALL(place),
-    CALL(parity_imager), CALL(parity_sounder), CALL(write_tag), CALL(read_tag),   CALL(elapsed),    CALL(watch_begin),
-    CALL(watch_offer),   CALL(next_field),     CALL(line),      CALL(first_text), CALL(line_text),  CALL(last_text),
-    CALL(salvage),       CALL(check_word),     CALL(take_words), CALL(put_words),
+    CALL(version),         CALL(write),          CALL(read),        CALL(plan),       CALL(record),     CALL(place),
+    CALL(parity_imager),   CALL(parity_sounder), CALL(write_tag),   CALL(read_tag),   CALL(elapsed),    CALL(sounder_status),
+    CALL(sounder_suspect), CALL(watch_begin),    CALL(watch_offer), CALL(next_field), CALL(line),       CALL(first_text),
+    CALL(line_text),       CALL(last_text),      CALL(salvage),     CALL(check_word), CALL(take_words), CALL(put_words),
 };
 
 /* How far down the paint is gone after a call on the painted stack. */
@@ -73,6 +82,16 @@ static size_t depth(uint8_t (*call)(void), int paint)
     return sizeof stack - clean;
 }
 
+/* A Sounder documentation block whose fifteen tags are those of the time at hand. */
+static void document(void)
+{
+    rahmisve_write_tag(time, days, RAHMISVE_MOST_LEAP_DAYS, tag);
+    for (size_t i = 0; i < RAHMISVE_SOUNDER_TAGS * RAHMISVE_TAG_BYTES; i++)
+        documentation[59 - 1 + i] = tag[i % RAHMISVE_TAG_BYTES];
+    for (size_t word = 182; word <= 194; word += 2)
+        documentation[word - 1] = 5;
+}
+
 int main(void)
 {
     header[RAHMISVE_HEADER_ID] = 1;
@@ -86,6 +105,7 @@ int main(void)
     time[RAHMISVE_TIME_HOUR] = 23;
     time[RAHMISVE_TIME_MINUTE] = 59;
     time[RAHMISVE_TIME_SECOND] = 60;
+    document();
     for (size_t i = 0; i < sizeof calls / sizeof *calls; i++) {
         /* once beforehand, so that what is bound on first use is bound; then with two paints, as a byte may have the colour of one */
         if (calls[i].call() != 0) {
