@@ -1,6 +1,6 @@
-//! GVAR blocks, CDA time tags, recordings, salvage and the scan watch, over the proved archive `librahmisve.a`. The
-//! archive's manual is include/rahmisve.h. Here a refusal is an `Err` with a [`Refusal`], and a lent room is as it was
-//! after one.
+//! GVAR blocks, CDA time tags, the Sounder's status, recordings, salvage and the scan watch, over the proved archive
+//! `librahmisve.a`. The archive's manual is include/rahmisve.h. Here a refusal is an `Err` with a [`Refusal`], and a lent
+//! room is as it was after one.
 //!
 //! Nothing is allocated and nothing is kept between calls, so that everything may be called from any thread.
 //!
@@ -39,6 +39,7 @@ mod record;
 mod recording;
 mod refusal;
 mod salvage;
+mod sounder;
 mod time;
 mod version;
 mod watch;
@@ -51,6 +52,7 @@ pub use record::{place, record, Place};
 pub use recording::{first_text, last_text, line, line_text, next_field, Field, Fields, Found, Line, Listed};
 pub use refusal::{Refusal, Unlisted};
 pub use salvage::{salvage, salvage_bytes, salvage_entries, Entry, Piece, Pieces, Salvaged};
+pub use sounder::{sounder_status, sounder_suspect, Detector, SounderFrame, SounderRefusal, SounderStatus, SounderTag};
 pub use time::{elapsed, read_tag, write_tag, Time};
 pub use version::{check_version, version, OtherVersion, VERSION};
 pub use watch::{Fill, Verdict, Watch};
@@ -80,6 +82,18 @@ pub const PARITY_WORDS: usize = 8_040;
 pub const IMAGER_MARKS: usize = 4;
 /// The same for the Sounder spacelook set.
 pub const SOUNDER_MARKS: usize = 2;
+/// Words of a Sounder documentation block.
+pub const SOUNDER_WORDS: usize = 8_040;
+/// Channels of the Sounder, from 1.
+pub const SOUNDER_CHANNELS: u32 = 19;
+/// Detectors of a channel of the Sounder, from 1.
+pub const SOUNDER_DETECTORS: u32 = 4;
+/// Numbers of the Sounder's status.
+pub const SOUNDER_NUMBERS: usize = 13;
+/// Time tags of a Sounder documentation block.
+pub const SOUNDER_TAGS: usize = 15;
+/// Numbers of what is said of such a tag: its answer, and a time behind it.
+pub const SOUNDER_TAG_NUMBERS: usize = 8;
 /// Numbers of a time.
 pub const TIME_NUMBERS: usize = 7;
 /// Numbers of a watch.

@@ -32,7 +32,7 @@ macro_rules! refusals {
             /// ```
             /// use rahmisve::Refusal;
             /// assert_eq!(Refusal::from_number(10), Some(Refusal::CheckDisagrees));
-            /// assert_eq!((Refusal::from_number(0), Refusal::from_number(21)), (None, None));
+            /// assert_eq!((Refusal::from_number(0), Refusal::from_number(23)), (None, None));
             /// ```
             #[must_use]
             pub const fn from_number(number: u8) -> Option<Refusal> {
@@ -89,7 +89,7 @@ refusals! {
     /// One not of eight bytes too, and an open watch whose last tag is bad.
     BadTag, 12, "a bad time tag";
     /// An open watch that expects none of the blocks 1 to 10.
-    NoRecord, 13, "no such record, or no such expected block";
+    NoRecord, 13, "no such record, detector or expected block";
     LargeWord, 14, "a word too large for its size";
     OtherField, 15, "a field of a recording with another tag than 1";
     LongLimit, 16, "a waiting limit above 3,600,000 ms";
@@ -99,6 +99,10 @@ refusals! {
     BadLeapDays, 19, "more than 64 leap days, two that do not rise, or one that no year has";
     /// In an open watch the expected block or one above it, in an idle one any.
     BadFill, 20, "a set of fill blocks that the watch cannot have";
+    SpareBit, 21, "a bit behind those of the Sounder's detectors is 1";
+    /// The eastern field too, where the western pixel is above the eastern one. A
+    /// [`SounderRefusal`](crate::SounderRefusal) names the field's first word.
+    OutOfRange, 22, "a frame field out of its range";
 }
 
 impl fmt::Display for Refusal {
@@ -115,7 +119,7 @@ mod tests {
 
     #[test]
     fn a_number_without_a_name_is_kept() {
-        assert_eq!((Refusal::of(21).number(), Refusal::of(255).number()), (21, 255));
-        assert_eq!(Refusal::of(20), Refusal::BadFill);
+        assert_eq!((Refusal::of(23).number(), Refusal::of(255).number()), (23, 255));
+        assert_eq!(Refusal::of(22), Refusal::OutOfRange);
     }
 }

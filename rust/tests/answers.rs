@@ -449,6 +449,198 @@ fn the_blocks_of_a_set() {
     assert!(!(0..100).any(|block| NO_FILL.has(block)));
 }
 
+/// The frame fields of the block below; each differs from the others.
+const FRAME: SounderFrame =
+    SounderFrame { scan_of_frame: 12, scan: 100, scan_north: 397, west: 600, east: 1_200, north: 349, south: 598 };
+
+/// The time of tag k of that block.
+fn tag_time(k: usize) -> Time {
+    Time { year: 2008, day: 61, second: k as u32, millisecond: 500 + k as u32, flywheel: k % 2 == 1, ..Time::default() }
+}
+
+fn put_pair(ws: &mut [u16], word: usize, number: u32) {
+    (ws[word - 1], ws[word]) = ((number >> 8) as u16, (number & 255) as u16);
+}
+
+fn put_tag(ws: &mut [u16], k: usize, tag: [u8; TAG_BYTES]) {
+    ws[58 + 8 * k..][..8].copy_from_slice(&tag.map(u16::from));
+}
+
+/// A Sounder documentation block with good tags, of which no detector is suspect.
+fn sounder_block() -> Vec<u16> {
+    let mut ws = words(SOUNDER_WORDS, 8);
+    ws[32..42].fill(0);
+    let SounderFrame { scan_of_frame, scan, scan_north, west, east, north, south } = FRAME;
+    let numbers = [scan_of_frame, scan, scan_north, west, east, north, south];
+    for (word, number) in (181..).step_by(2).zip(numbers).chain([(43, 263), (45, 65_535)]) {
+        put_pair(&mut ws, word, number);
+    }
+    for k in 0..SOUNDER_TAGS {
+        put_tag(&mut ws, k, write_tag(&tag_time(k), &[]).expect("a good time"));
+    }
+    ws
+}
+
+/// The detectors in the order of their bits.
+fn detectors() -> impl Iterator<Item = Detector> {
+    (1..=SOUNDER_CHANNELS)
+        .flat_map(|channel| (1..=SOUNDER_DETECTORS).map(move |detector| Detector { channel, detector }))
+}
+
+/// Those that are suspect, asked for one by one.
+fn suspects_of(ws: &[u16]) -> Vec<Detector> {
+    let is_suspect = |d: &Detector| sounder_suspect(ws, &[], d.channel, d.detector).expect("a detector");
+    detectors().filter(is_suspect).collect()
+}
+
+fn refused<T>(refusal: Refusal, word: Option<u32>) -> Result<T, SounderRefusal> {
+    Err(SounderRefusal { refusal, word })
+}
+
+#[test]
+fn the_status_of_the_sounder() {
+    let status = sounder_status(&sounder_block(), &[]).expect("a good block");
+    let tags = core::array::from_fn(|k| Ok(tag_time(k)));
+    assert_eq!(status, SounderStatus { suspects: 0, first: None, raw_blocks: 263, blocks: 65_535, frame: FRAME, tags });
+    assert_eq!(suspects_of(&sounder_block()), []);
+}
+
+#[test]
+fn each_detector_has_its_bit() {
+    assert_eq!(detectors().count(), 76);
+    for (k, detector) in detectors().enumerate() {
+        let mut ws = sounder_block();
+        ws[32 + k / 8] = 0x80 >> (k % 8);
+        let status = sounder_status(&ws, &[]).expect("a good block");
+        assert_eq!((status.suspects, status.first, suspects_of(&ws)), (1, Some(detector), vec![detector]));
+    }
+    let mut ws = sounder_block();
+    (ws[33], ws[40], ws[41]) = (0x04, 0x02, 0x10);
+    let wanted = [(4, 2), (18, 3), (19, 4)].map(|(channel, detector)| Detector { channel, detector });
+    let status = sounder_status(&ws, &[]).expect("a good block");
+    assert_eq!((status.suspects, status.first, &suspects_of(&ws)[..]), (3, Some(wanted[0]), &wanted[..]));
+    ws[32..41].fill(255);
+    ws[41] = 0xF0;
+    assert_eq!(sounder_status(&ws, &[]).map(|status| status.suspects), Ok(76));
+    assert!(suspects_of(&ws).into_iter().eq(detectors()));
+}
+
+#[test]
+fn frame_fields_and_their_ranges() {
+    let ranges = [(1, 396), (1, 396), (1, 1_579), (1, 1_754), (5, 1_758), (1, 1_579), (4, 1_582)];
+    for (word, (least, most)) in (181..).step_by(2).zip(ranges) {
+        let with = |number| {
+            let mut ws = sounder_block();
+            put_pair(&mut ws, 187, if word == 189 { 5 } else { 600 });
+            put_pair(&mut ws, 189, if word == 187 { 1_758 } else { 1_200 });
+            put_pair(&mut ws, word, number);
+            let status = sounder_status(&ws, &[]).map(|_| ());
+            assert_eq!(sounder_suspect(&ws, &[], 1, 1).map(|_| ()), status);
+            status
+        };
+        assert_eq!((with(least), with(most)), (Ok(()), Ok(())), "word {word}");
+        for number in [least - 1, most + 1, 65_535, 0] {
+            assert_eq!(with(number), refused(Refusal::OutOfRange, Some(word as u32)), "word {word}, {number}");
+        }
+    }
+    let between = |west, east| {
+        let mut ws = sounder_block();
+        put_pair(&mut ws, 187, west);
+        put_pair(&mut ws, 189, east);
+        sounder_status(&ws, &[]).map(|status| (status.frame.west, status.frame.east))
+    };
+    assert_eq!((between(600, 600), between(5, 5)), (Ok((600, 600)), Ok((5, 5))));
+    assert_eq!(between(601, 600), refused(Refusal::OutOfRange, Some(189)));
+    assert_eq!(between(1_755, 600), refused(Refusal::OutOfRange, Some(187)));
+    // of several the lowest; a north below its south is no ground
+    let mut ws = sounder_block();
+    put_pair(&mut ws, 191, 1_579);
+    assert!(sounder_status(&ws, &[]).is_ok());
+    for word in [193, 191, 189, 187, 185, 183, 181] {
+        put_pair(&mut ws, word, 0);
+        assert_eq!(sounder_status(&ws, &[]), refused(Refusal::OutOfRange, Some(word as u32)));
+    }
+}
+
+#[test]
+fn a_bad_tag_refuses_itself() {
+    let all = [
+        SounderTag::Current,
+        SounderTag::LineStart,
+        SounderTag::LineEnd,
+        SounderTag::SetAtStart,
+        SounderTag::SetAtEnd,
+        SounderTag::PriorityFrame,
+        SounderTag::NormalFrame,
+        SounderTag::Spacelook,
+        SounderTag::Ecal,
+        SounderTag::Blackbody,
+        SounderTag::StarSense,
+        SounderTag::Ranging,
+        SounderTag::VisibleTables,
+        SounderTag::Limits,
+        SounderTag::Orbit,
+    ];
+    for (bad, tag) in all.into_iter().enumerate() {
+        let mut ws = sounder_block();
+        ws[58 + 8 * bad + 7] = 0x9A;
+        let status = sounder_status(&ws, &[]).expect("a good block");
+        for k in 0..SOUNDER_TAGS {
+            assert_eq!(status.tags[k], if k == bad { Err(Refusal::BadTag) } else { Ok(tag_time(k)) });
+        }
+        assert_eq!(status.tag(tag), Err(Refusal::BadTag));
+        put_tag(&mut ws, bad, write_tag(&LEAP, &LISTED).expect("a good time"));
+        let by = |leap_days| sounder_status(&ws, leap_days).map(|status| status.tag(tag));
+        assert_eq!((by(&LISTED[..]), by(&LISTED[..2])), (Ok(Ok(LEAP)), Ok(Err(Refusal::BadTag))));
+    }
+}
+
+#[test]
+fn a_sounder_block_is_refused_in_order() {
+    // every ground at once, mended one by one
+    let mut ws = sounder_block();
+    (ws[41], ws[0], ws[8_039]) = (0xFF, 256, 65_535);
+    put_pair(&mut ws, 193, 3);
+    let list = [LISTED[1], LISTED[0]];
+    let expect = |ws: &[u16], leap_days: &[LeapDay], refusal, word| {
+        assert_eq!(sounder_status(ws, leap_days), refused(refusal, word));
+        for (channel, detector) in [(1, 1), (0, 0), (20, 5)] {
+            assert_eq!(sounder_suspect(ws, leap_days, channel, detector), refused(refusal, word));
+        }
+    };
+    for length in [0, 8_039] {
+        expect(&ws[..length], &list, Refusal::WrongLength, None);
+    }
+    expect(&[&ws[..], &[0]].concat(), &list, Refusal::WrongLength, None);
+    expect(&ws, &list, Refusal::LargeWord, None);
+    ws[0] = 255;
+    expect(&ws, &list, Refusal::LargeWord, None);
+    ws[8_039] = 255;
+    for spare in [0x0F, 0x08, 0x04, 0x02, 0x01, 0xF1] {
+        ws[41] = spare;
+        expect(&ws, &list, Refusal::SpareBit, None);
+    }
+    ws[41] = 0xF0;
+    expect(&ws, &list, Refusal::OutOfRange, Some(193));
+    put_pair(&mut ws, 193, 4);
+    for list in bad_lists() {
+        expect(&ws, &list, Refusal::BadLeapDays, None);
+    }
+    assert_eq!(sounder_status(&ws, &LISTED).map(|status| status.suspects), Ok(4));
+    for (channel, detector) in [(0, 1), (20, 1), (1, 0), (1, 5), (256 + 1, 1), (1, 65_536 + 1), (u32::MAX, u32::MAX)] {
+        assert_eq!(sounder_suspect(&ws, &LISTED, channel, detector), refused(Refusal::NoRecord, None));
+    }
+}
+
+#[test]
+fn a_refused_sounder_block_says_why() {
+    let why = SounderRefusal { refusal: Refusal::OutOfRange, word: Some(189) };
+    let boxed: Box<dyn std::error::Error> = Box::new(why);
+    assert_eq!(boxed.to_string(), format!("{}, word 189", Refusal::OutOfRange));
+    assert_eq!(SounderRefusal { word: None, ..why }.to_string(), Refusal::OutOfRange.to_string());
+    assert_eq!(Refusal::from(why), Refusal::OutOfRange);
+}
+
 #[test]
 fn what_a_block_is_made_of() {
     assert_eq!(check_word(b"123456789"), 0xD64E);
@@ -492,7 +684,7 @@ fn a_refusal_says_why() {
     assert_eq!(boxed.to_string(), format!("refusal 12: {text}"));
     for number in 0..=255 {
         let named = Refusal::from_number(number);
-        assert_eq!(named.map(Refusal::number), (1..=20).contains(&number).then_some(number));
+        assert_eq!(named.map(Refusal::number), (1..=22).contains(&number).then_some(number));
     }
 }
 
