@@ -1,6 +1,7 @@
 /* Two ways in C to read a time tag, to count the time between two and to follow a scan, its fill blocks too, with a list
  * of leap days; src/idiomatic_tags.rs is a third. Each has the same three functions, which take and answer what those of
- * rahmisve.h do. */
+ * rahmisve.h do, and two of their parts, for whoever has many tags and one list: whether a list is good, and whether
+ * bytes are a tag by such a list. */
 #ifndef TAGS_H
 #define TAGS_H
 
@@ -8,7 +9,11 @@
 #include <stdint.h>
 #include <string.h>
 
+typedef int tag_taker(const uint8_t *tag, size_t len, const uint32_t *days, size_t count, uint32_t time[7]);
+
 #define TAG_BASELINE(name)                                                                                      \
+    int name##_good_list(const uint32_t *days, size_t count);                                                   \
+    tag_taker name##_take_tag;                                                                                  \
     uint8_t name##_read_tag(const uint8_t *tag, size_t len, const uint32_t *days, size_t count,                 \
                             uint32_t time[7]);                                                                  \
     uint8_t name##_elapsed(const uint8_t *from, size_t from_len, const uint8_t *to, size_t to_len,              \

@@ -23,10 +23,10 @@ fn is_day(year: u32, day: u32) -> bool {
 
 /// A list of leap days that is good, which nothing else makes.
 #[derive(Clone, Copy)]
-struct LeapDays<'a>(&'a [u32]);
+pub(crate) struct LeapDays<'a>(&'a [u32]);
 
 impl<'a> LeapDays<'a> {
-    fn new(days: &'a [u32]) -> Result<Self, u8> {
+    pub(crate) fn new(days: &'a [u32]) -> Result<Self, u8> {
         let good = days.len() <= 64
             && days.iter().all(|day| is_day(day / 1_000, day % 1_000))
             && days.is_sorted_by(|a, b| a < b);
@@ -49,7 +49,7 @@ impl Time {
             }
     }
 
-    fn parse(tag: &[u8], leap_days: LeapDays) -> Result<Time, u8> {
+    pub(crate) fn parse(tag: &[u8], leap_days: LeapDays) -> Result<Time, u8> {
         let mut bytes: [u8; 8] = tag.try_into().map_err(|_| 12)?;
         let flywheel = bytes[2] >= 0x80;
         bytes[2] &= 0x7F;
@@ -179,14 +179,14 @@ pub(crate) mod c {
     use super::{Time, Verdict, Watch};
     use crate::tags::WatchNumbers;
 
-    unsafe fn lent<'a, T>(from: *const T, length: usize) -> &'a [T] {
+    pub(crate) unsafe fn lent<'a, T>(from: *const T, length: usize) -> &'a [T] {
         if length == 0 {
             return &[];
         }
         std::slice::from_raw_parts(from, length)
     }
 
-    fn numbers(time: Time) -> [u32; 7] {
+    pub(crate) fn numbers(time: Time) -> [u32; 7] {
         let Time { year, day, hour, minute, second, ms, flywheel } = time;
         [year, day, hour, minute, second, ms, flywheel.into()]
     }

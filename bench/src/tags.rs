@@ -2,6 +2,8 @@
 //! alike.
 
 use crate::idiomatic_tags::c::*;
+use independent::leaps::number;
+use independent::tags::days_in;
 use rahmisve_sys::*;
 
 type ReadTag = unsafe extern "C" fn(*const u8, usize, *const u32, usize, *mut [u32; 7]) -> u8;
@@ -73,6 +75,12 @@ pub const BASELINES: [TagWay; 3] = [
         offer: idiomatic_watch_offer,
     },
 ];
+
+/// 64 leap days, the ends of half-years, of which the last is that of 2016.
+pub fn half_years() -> Vec<u32> {
+    let ends = |year| [days_in(year) - 184, days_in(year)].map(|day| number((year, day)));
+    (1985..=2016).flat_map(ends).collect()
+}
 
 /// What an offer answers: its number, the verdict, and the set of fill blocks and their count of a scan that it closes.
 #[derive(Clone, Copy, Debug, Default, PartialEq)]

@@ -1,9 +1,9 @@
-//! agree SEED COUNT: the three baselines against the model, with tags, leap days and fill blocks too, and plain C's search
-//! for blocks against the library's.
+//! agree SEED COUNT: the three baselines against the model, with tags, leap days and fill blocks too, and against the
+//! library on Sounder documentation blocks; and plain C's search for blocks against the library's.
 
 use bench::agree_tags::Compared;
 use bench::search::{Rooms, LIBRARY, PLAIN};
-use bench::{tags, Way, BASELINES};
+use bench::{agree_sounder, tags, Way, BASELINES};
 use independent::compare::{case_of, Case};
 use independent::compare_fills::fill_case_of;
 use independent::compare_leaps::leap_case_of;
@@ -126,6 +126,15 @@ fn tagging(seed: u64, count: u64) -> Compared {
     compared
 }
 
+/// Sounder documentation blocks, good and bad, with lists of leap days good and bad.
+fn judging(seed: u64, count: u64) -> agree_sounder::Compared {
+    let mut compared = agree_sounder::Compared::default();
+    for number in 0..count {
+        compared.compare(&mut Dice::for_case(!seed, number));
+    }
+    compared
+}
+
 fn main() {
     let numbers: Vec<u64> = std::env::args().skip(1).filter_map(|text| text.parse().ok()).collect();
     let [seed, count] = numbers[..] else {
@@ -135,6 +144,7 @@ fn main() {
     let mut runs = [0; 5];
     let mut searches = [0; 3];
     let tagged = tagging(seed, count);
+    let judged = judging(seed, count);
     for number in 0..count {
         let case = case_of(seed, number);
         let mut dice = Dice::for_case(!seed, number);
@@ -177,13 +187,17 @@ fn main() {
     println!(
         "{} baselines agree with the model: {checks} check words, {reads} reads ({accepted} accepted), \
          {writes} writes, {packs} packings, {} calls on tags ({} with a bad list of leap days, {} with a bad set of fill \
-         blocks, {} refused for something else, {} that close a scan with fill in it); and plain C's search with the \
-         library's: {searches} inputs ({salvaged} accepted, {blocks} blocks)",
+         blocks, {} refused for something else, {} that close a scan with fill in it); with the library on {} Sounder \
+         documentation blocks ({} accepted, {} with a frame field out of range); and plain C's search with the library's: \
+         {searches} inputs ({salvaged} accepted, {blocks} blocks)",
         BASELINES.len(),
         tagged.calls,
         tagged.bad_list,
         tagged.bad_fill,
         tagged.refused,
-        tagged.closed_with_fill
+        tagged.closed_with_fill,
+        judged.blocks,
+        judged.accepted,
+        judged.out_of_range
     );
 }

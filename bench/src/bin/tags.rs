@@ -6,9 +6,9 @@ use std::hint::black_box;
 use std::time::{Duration, Instant};
 
 use bench::against;
-use bench::tags::{Offered, TagWay, WatchNumbers, BASELINES, LIBRARY};
-use independent::leaps::{clock, number};
-use independent::tags::{days_in, spell, Tag};
+use bench::tags::{half_years, Offered, TagWay, WatchNumbers, BASELINES, LIBRARY};
+use independent::leaps::clock;
+use independent::tags::{spell, Tag};
 use independent::watch::VALID;
 
 const OFFERS: usize = 11;
@@ -47,12 +47,6 @@ impl Left {
         watch[9] = LIMIT;
         Left { answers: 0, time: [0; 7], ms: 0, watch, offered: Offered::default() }
     }
-}
-
-/// The ends of 64 half-years, of which the last is that of 2016.
-fn half_years() -> Vec<u32> {
-    let ends = |year| [days_in(year) - 184, days_in(year)].map(|day| number((year, day)));
-    (1985..=2016).flat_map(ends).collect()
 }
 
 /// Eleven tags from a time on, within its second.
