@@ -1,6 +1,5 @@
-//! Blocks, time tags, parity, the watch, recordings and their salvage, written a
-//! second time from the specification so that a library can be compared with it.
-//! Plain code comes before quick code everywhere here.
+//! Blocks, time tags, parity, the Sounder's status, the watch, recordings and their salvage, written a second time from
+//! the specification so that a library can be compared with it. Plain code comes before quick code everywhere here.
 
 pub mod block;
 pub mod check;
@@ -22,6 +21,7 @@ pub mod real;
 pub mod recording;
 pub mod rows;
 pub mod salvage;
+pub mod status;
 pub mod tags;
 pub mod tapes;
 pub mod watch;

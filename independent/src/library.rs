@@ -4,7 +4,7 @@
 use crate::rows::LARGEST_C;
 use crate::tags::Tag;
 use crate::watch::{Verdict, Watch};
-use crate::{block, check, parity, placement, recording, salvage, tags, watch, words};
+use crate::{block, check, parity, placement, recording, salvage, status, tags, watch, words};
 
 #[derive(Clone, Debug, PartialEq, Eq)]
 pub struct ReadAnswer {
@@ -95,6 +95,41 @@ impl SalvageAnswer {
     }
 }
 
+/// What a Sounder documentation block says. A refusal has zeros, but with 22 the first word of the frame field.
+#[derive(Clone, Debug, Default, PartialEq, Eq)]
+pub struct StatusAnswer {
+    pub number: u8,
+    pub word: u32,
+    pub suspects: u32,
+    /// Channel and detector of the first suspect one, zeros where none is.
+    pub first: (u32, u32),
+    pub raw_count: u32,
+    pub block_count: u32,
+    pub frame: [u32; 7],
+    /// Each with a number of its own.
+    pub tags: [(u8, Tag); 15],
+}
+
+impl StatusAnswer {
+    pub fn refused(number: u8, word: u32) -> StatusAnswer {
+        StatusAnswer { number, word, ..StatusAnswer::default() }
+    }
+}
+
+/// Whether one detector of such a block is suspect.
+#[derive(Clone, Copy, Debug, PartialEq, Eq)]
+pub struct SuspectAnswer {
+    pub number: u8,
+    pub word: u32,
+    pub suspect: bool,
+}
+
+impl SuspectAnswer {
+    pub fn refused(number: u8, word: u32) -> SuspectAnswer {
+        SuspectAnswer { number, word, suspect: false }
+    }
+}
+
 pub trait Library {
     fn check_word(&self, bytes: &[u8]) -> u16;
     fn take_words(&self, field: &[u8], size: u32, count: usize, room: &mut [u16]) -> u8;
@@ -115,6 +150,8 @@ pub trait Library {
     fn offer(&self, watch: &mut Watch, block: u8, valid: u32, tag: &[u8], leap_days: &[u32]) -> OfferAnswer;
     fn imager(&self, words: &[u16]) -> (u8, [bool; 4]);
     fn sounder(&self, words: &[u16]) -> (u8, [bool; 2]);
+    fn sounder_status(&self, words: &[u16], leap_days: &[u32]) -> StatusAnswer;
+    fn sounder_suspect(&self, words: &[u16], leap_days: &[u32], channel: u32, detector: u32) -> SuspectAnswer;
     fn next_field(&self, recording: &[u8], at: usize) -> FieldAnswer;
     fn line(&self, before: u64, tag: u32, body: &[u8], room: &mut [u16]) -> LineAnswer;
     /// Number, bytes written; so for each text.
@@ -198,6 +235,12 @@ impl Library for Model {
     }
     fn sounder(&self, words: &[u16]) -> (u8, [bool; 2]) {
         parity::sounder(words)
+    }
+    fn sounder_status(&self, words: &[u16], leap_days: &[u32]) -> StatusAnswer {
+        status::status(words, leap_days)
+    }
+    fn sounder_suspect(&self, words: &[u16], leap_days: &[u32], channel: u32, detector: u32) -> SuspectAnswer {
+        status::suspect(words, leap_days, channel, detector)
     }
     fn next_field(&self, recording: &[u8], at: usize) -> FieldAnswer {
         recording::next_field(recording, at)

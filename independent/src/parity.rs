@@ -9,12 +9,20 @@ type Section = (usize, usize, usize);
 const IMAGER: [Section; 4] = [(1, 221, 222), (223, 701, 702), (703, 1181, 1182), (1183, 7902, 7906)];
 const SOUNDER: [Section; 2] = [(1, 221, 222), (223, 2926, 2927)];
 
-fn verdicts<const N: usize>(sections: &[Section; N], words: &[u16]) -> (u8, [bool; N]) {
+/// Refusal 8 for another number of words, then 14 for a word of more than eight bits.
+pub fn eight_bit_words(words: &[u16]) -> Result<(), u8> {
     if words.len() != WORDS {
-        return (8, [false; N]);
+        return Err(8);
     }
     if words.iter().any(|&word| word > 255) {
-        return (14, [false; N]);
+        return Err(14);
+    }
+    Ok(())
+}
+
+fn verdicts<const N: usize>(sections: &[Section; N], words: &[u16]) -> (u8, [bool; N]) {
+    if let Err(number) = eight_bit_words(words) {
+        return (number, [false; N]);
     }
     let right = sections.map(|(first, last, parity)| {
         let mut sum = 0;

@@ -3,7 +3,10 @@
 use rahmisve_sys::*;
 
 use crate::inputs::LARGEST_K;
-use crate::library::{list_by_lines, FieldAnswer, Found, Library, LineAnswer, OfferAnswer, ReadAnswer, SalvageAnswer};
+use crate::library::{
+    list_by_lines, FieldAnswer, Found, Library, LineAnswer, OfferAnswer, ReadAnswer, SalvageAnswer, StatusAnswer,
+    SuspectAnswer,
+};
 use crate::tags::Tag;
 use crate::watch::{Verdict, Watch};
 
@@ -19,15 +22,25 @@ fn numbers(tag: &Tag) -> [u32; 7] {
     ]
 }
 
+/// A number that is too large becomes one that no good time has, so that it shows.
+fn in_byte(number: u32) -> u8 {
+    number.try_into().unwrap_or(u8::MAX)
+}
+
+fn in_two_bytes(number: u32) -> u16 {
+    number.try_into().unwrap_or(u16::MAX)
+}
+
 fn tag_of(time: &[u32]) -> Tag {
+    assert!(time[6] < 2, "a mark is 0 or 1");
     Tag {
-        year: time[0] as u16,
-        day: time[1] as u16,
-        hour: time[2] as u8,
-        minute: time[3] as u8,
-        second: time[4] as u8,
-        millisecond: time[5] as u16,
-        flywheel: time[6] != 0,
+        year: in_two_bytes(time[0]),
+        day: in_two_bytes(time[1]),
+        hour: in_byte(time[2]),
+        minute: in_byte(time[3]),
+        second: in_byte(time[4]),
+        millisecond: in_two_bytes(time[5]),
+        flywheel: time[6] == 1,
     }
 }
 
@@ -59,6 +72,9 @@ fn verdict_of(verdict: u8, number: u8) -> Verdict {
         _ => panic!("verdict {verdict}"),
     }
 }
+
+/// More than any number of a status can be.
+const JUNK: u32 = 0x5A5A_5A5A;
 
 /// No leap days are lent as null, the way a caller in C has it.
 fn place_of(leap_days: &[u32]) -> *const u32 {
@@ -189,6 +205,39 @@ impl Library for Real {
         let mut holds = [0x5A; 2];
         let number = unsafe { rahmisve_parity_sounder(words.as_ptr(), words.len(), &mut holds) };
         (number, holds.map(|section| section != 0))
+    }
+    fn sounder_status(&self, words: &[u16], leap_days: &[u32]) -> StatusAnswer {
+        let (mut status, mut tags) = ([JUNK; 13], [[JUNK; 8]; 15]);
+        let number = unsafe {
+            rahmisve_sounder_status(
+                words.as_ptr(),
+                words.len(),
+                place_of(leap_days),
+                leap_days.len(),
+                &mut status,
+                &mut tags,
+            )
+        };
+        let [word, suspects, channel, detector, raw_count, block_count, frame @ ..] = status;
+        let tags = tags.map(|[number, time @ ..]| (in_byte(number), tag_of(&time)));
+        StatusAnswer { number, word, suspects, first: (channel, detector), raw_count, block_count, frame, tags }
+    }
+    fn sounder_suspect(&self, words: &[u16], leap_days: &[u32], channel: u32, detector: u32) -> SuspectAnswer {
+        let (mut word, mut suspect) = (JUNK, 0x5A);
+        let number = unsafe {
+            rahmisve_sounder_suspect(
+                words.as_ptr(),
+                words.len(),
+                place_of(leap_days),
+                leap_days.len(),
+                channel,
+                detector,
+                &mut word,
+                &mut suspect,
+            )
+        };
+        assert!(suspect < 2, "a mark is 0 or 1");
+        SuspectAnswer { number, word, suspect: suspect == 1 }
     }
     fn next_field(&self, recording: &[u8], at: usize) -> FieldAnswer {
         let (mut tag, mut start, mut length) = (0x5A, 0x5A5A, 0x5A5A);

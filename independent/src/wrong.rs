@@ -3,7 +3,9 @@
 
 use crate::check::check_bytes;
 use crate::header::{meaning, passing, sealed, HEADER};
-use crate::library::{FieldAnswer, Found, Library, LineAnswer, Model, OfferAnswer, ReadAnswer, SalvageAnswer};
+use crate::library::{
+    FieldAnswer, Found, Library, LineAnswer, Model, OfferAnswer, ReadAnswer, SalvageAnswer, StatusAnswer, SuspectAnswer,
+};
 use crate::tags::{self, Tag};
 use crate::watch::{Verdict, Watch};
 use crate::{rows, words, wrong_fills, wrong_leaps, wrong_salvage};
@@ -540,6 +542,14 @@ impl Library for Wrong {
 
     fn sounder(&self, words: &[u16]) -> (u8, [bool; 2]) {
         Model.sounder(words)
+    }
+
+    fn sounder_status(&self, words: &[u16], leap_days: &[u32]) -> StatusAnswer {
+        Model.sounder_status(words, leap_days)
+    }
+
+    fn sounder_suspect(&self, words: &[u16], leap_days: &[u32], channel: u32, detector: u32) -> SuspectAnswer {
+        Model.sounder_suspect(words, leap_days, channel, detector)
     }
 
     fn next_field(&self, recording: &[u8], at: usize) -> FieldAnswer {
