@@ -4,7 +4,9 @@ use std::collections::BTreeMap;
 use std::fmt::Write;
 
 use crate::inputs::{self, Dice};
-use crate::library::{FieldAnswer, Library, LineAnswer, Model, OfferAnswer, ReadAnswer, SalvageAnswer};
+use crate::library::{
+    FieldAnswer, Library, LineAnswer, Model, OfferAnswer, ReadAnswer, SalvageAnswer, StatusAnswer, SuspectAnswer,
+};
 use crate::rows;
 use crate::salvage::{changed_text, ENTRY_NUMBERS, SPAN};
 use crate::tags::Tag;
@@ -41,6 +43,8 @@ pub enum Case {
     Offers { start: Start, offers: Vec<Offer> },
     Imager { words: Vec<u16> },
     Sounder { words: Vec<u16> },
+    Status { words: Vec<u16>, leap_days: Vec<u32>, shift: usize },
+    Suspect { words: Vec<u16>, leap_days: Vec<u32>, channel: u32, detector: u32, shift: usize },
     NextField { recording: Vec<u8>, at: usize, shift: usize },
     Line { before: u64, tag: u32, body: Vec<u8>, room: Vec<u16>, shift: usize },
     FirstText { room: Vec<u8> },
@@ -64,6 +68,8 @@ pub enum Answer {
     Offers(u8, Vec<(OfferAnswer, Watch)>),
     Imager(u8, [bool; 4]),
     Sounder(u8, [bool; 2]),
+    Status(Box<StatusAnswer>),
+    Suspect(SuspectAnswer),
     Field(FieldAnswer),
     Line(LineAnswer),
     Text(u8, usize),
@@ -224,6 +230,22 @@ pub fn run(library: &dyn Library, case: &Case) -> Outcome {
             words.push(("words", lent));
             Answer::Sounder(number, right)
         }
+        Case::Status { words: lent, leap_days, shift } => {
+            let lent = lend_words(lent, *shift);
+            let leap_days = lend_leap_days(leap_days);
+            let answer = library.sounder_status(lent.get(), leap_days.get());
+            words.push(("words", lent));
+            lists.push(("leap days", leap_days));
+            Answer::Status(answer.into())
+        }
+        Case::Suspect { words: lent, leap_days, channel, detector, shift } => {
+            let lent = lend_words(lent, *shift);
+            let leap_days = lend_leap_days(leap_days);
+            let answer = library.sounder_suspect(lent.get(), leap_days.get(), *channel, *detector);
+            words.push(("words", lent));
+            lists.push(("leap days", leap_days));
+            Answer::Suspect(answer)
+        }
         Case::NextField { recording, at, shift } => {
             let lent = lend_bytes(recording, *shift);
             let answer = library.next_field(lent.get(), *at);
@@ -304,6 +326,8 @@ impl Case {
             Case::Offers { .. } => "offer",
             Case::Imager { .. } => "imager",
             Case::Sounder { .. } => "sounder",
+            Case::Status { .. } => "status",
+            Case::Suspect { .. } => "suspect",
             Case::NextField { .. } => "next field",
             Case::Line { .. } => "line",
             Case::FirstText { .. } => "first text",
@@ -355,6 +379,15 @@ impl Case {
             Case::Imager { words } | Case::Sounder { words } => {
                 writeln!(text, "  words, {}: {}", words.len(), hex_words(words)).unwrap();
             }
+            Case::Status { words, leap_days, shift } => {
+                writeln!(text, "  words, {}: {}", words.len(), hex_words(words)).unwrap();
+                writeln!(text, "  leap days: {leap_days:?}, shift: {shift}").unwrap();
+            }
+            Case::Suspect { words, leap_days, channel, detector, shift } => {
+                writeln!(text, "  words, {}: {}", words.len(), hex_words(words)).unwrap();
+                writeln!(text, "  channel {channel}, detector {detector}").unwrap();
+                writeln!(text, "  leap days: {leap_days:?}, shift: {shift}").unwrap();
+            }
             Case::NextField { recording, at, shift } => {
                 bytes("recording", recording);
                 writeln!(text, "  at: {at}, shift: {shift}").unwrap();
@@ -383,6 +416,15 @@ impl Case {
     }
 }
 
+/// Refusal 22 is counted by the word that it names.
+fn refusal_label(number: u8, word: u32) -> String {
+    if word == 0 {
+        number.to_string()
+    } else {
+        format!("{number} at {word}")
+    }
+}
+
 /// Names under which answers are counted.
 fn labels(answer: &Answer) -> Vec<String> {
     match answer {
@@ -395,6 +437,14 @@ fn labels(answer: &Answer) -> Vec<String> {
             let name = |&found| if found == SPAN { "span".into() } else { format!("block {}", changed_text(found)) };
             [answer.number.to_string()].into_iter().chain(found.iter().map(name)).collect()
         }
+        Answer::Status(answer) => {
+            let tags = answer.tags.iter().filter(|_| answer.number == 0).map(|(number, _)| format!("tag {number}"));
+            [refusal_label(answer.number, answer.word)].into_iter().chain(tags).collect()
+        }
+        Answer::Suspect(SuspectAnswer { number: 0, suspect, .. }) => {
+            vec!["0".into(), if *suspect { "suspect".into() } else { "not suspect".into() }]
+        }
+        Answer::Suspect(answer) => vec![refusal_label(answer.number, answer.word)],
         Answer::Listing(text) => {
             let lines: Vec<&str> = text.lines().skip(1).collect();
             lines

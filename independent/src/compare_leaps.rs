@@ -45,7 +45,7 @@ fn judges(leap_days: &[u32]) -> Vec<Case> {
 }
 
 /// Lists of 64 days that are wrong at one place, each place in turn.
-fn lists_wrong_at_a_place() -> Vec<Vec<u32>> {
+pub(crate) fn lists_wrong_at_a_place() -> Vec<Vec<u32>> {
     let good = successive((2015, 330), MOST_LEAP_DAYS);
     let mut lists = Vec::new();
     for at in 0..MOST_LEAP_DAYS {
@@ -64,7 +64,7 @@ fn lists_wrong_at_a_place() -> Vec<Vec<u32>> {
     lists
 }
 
-fn lists_by_length() -> impl Iterator<Item = Vec<u32>> {
+pub(crate) fn lists_by_length() -> impl Iterator<Item = Vec<u32>> {
     // Behind 255 and 65,535 the lengths of good lists come again where they are cut to a byte or two.
     let lengths = (0..=70).chain([127, 128, 129, 255, 256, 257, 320, 321, 65_535, 65_536, 65_537, 65_600]);
     lengths.map(|length| successive((1_990, 200), length))

@@ -1,11 +1,13 @@
 //! The numbered table, the further run cases, block 2 by version, the listing's
 //! example, the salvage's, leap seconds, which blocks were fill and the errors
-//! trainees bring, with the answers that the specification prints. Nothing here
-//! asks the model, so it is checked like any library.
+//! trainees bring, with the answers that the specification prints; the Sounder's
+//! status has a file of its own. Nothing here asks the model, so it is checked
+//! like any library.
 
 use std::fmt::Debug;
 
 use crate::check::check_word;
+use crate::document_status;
 use crate::inputs::{digits, field};
 use crate::library::{Library, OfferAnswer, SalvageAnswer};
 use crate::salvage::text;
@@ -19,7 +21,7 @@ pub struct Findings {
 }
 
 impl Findings {
-    fn expect<T: PartialEq + Debug>(&mut self, what: &str, got: T, wanted: T) {
+    pub(crate) fn expect<T: PartialEq + Debug>(&mut self, what: &str, got: T, wanted: T) {
         self.run += 1;
         if got != wanted {
             self.wrong.push(format!("{what}\n  answered: {got:?}\n  printed:  {wanted:?}"));
@@ -100,7 +102,7 @@ fn field_starts(library: &dyn Library, found: &mut Findings, id: u8, size: u8, c
     found.expect("words 1, 2, 3, 4 read", (answer.number, answer.words, room), (0, c as usize, words));
 }
 
-fn clock(year: u16, day: u16, hour: u8, minute: u8, second: u8, millisecond: u16) -> Tag {
+pub(crate) fn clock(year: u16, day: u16, hour: u8, minute: u8, second: u8, millisecond: u16) -> Tag {
     Tag { year, day, hour, minute, second, millisecond, flywheel: false }
 }
 
@@ -373,7 +375,7 @@ fn salvage_lone_block(library: &dyn Library, found: &mut Findings) {
 }
 
 /// 2016 day 366 as a leap day.
-const LEAP_DAY: u32 = 2_016_366;
+pub(crate) const LEAP_DAY: u32 = 2_016_366;
 const LAST_SECOND: [u8; 8] = [0x20, 0x16, 0x36, 0x62, 0x35, 0x95, 0x90, 0x00];
 const LEAP_SECOND: [u8; 8] = [0x20, 0x16, 0x36, 0x62, 0x35, 0x96, 0x00, 0x00];
 const LEAP_SECOND_ENDS: [u8; 8] = [0x20, 0x16, 0x36, 0x62, 0x35, 0x96, 0x09, 0x99];
@@ -453,7 +455,7 @@ fn days_of_1973(count: u32) -> Vec<u32> {
     (1_973_001..1_973_001 + count).collect()
 }
 
-fn bad_lists() -> Vec<Vec<u32>> {
+pub(crate) fn bad_lists() -> Vec<Vec<u32>> {
     vec![
         days_of_1973(65),
         vec![LEAP_DAY, LEAP_DAY],
@@ -771,6 +773,7 @@ pub fn all(library: &dyn Library) -> Findings {
     salvage(library, &mut found);
     leap_seconds(library, &mut found);
     fill_blocks(library, &mut found);
+    document_status::status(library, &mut found);
     trainee_errors(library, &mut found);
     found
 }

@@ -182,7 +182,7 @@ fn without_or_with(list: &[u32], date: Date) -> Vec<u32> {
 // ---- tags ----
 
 /// A tag in the last second of a day, a leap second or one that is not to be.
-fn tag_near_end(dice: &mut Dice, date: Date) -> Tag {
+pub(crate) fn tag_near_end(dice: &mut Dice, date: Date) -> Tag {
     let mut tag = clock(date, 23, 59, 60);
     tag.millisecond = often_at_edge(dice, 1_000) as u16;
     tag.flywheel = dice.one_in(3);

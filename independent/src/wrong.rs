@@ -8,7 +8,7 @@ use crate::library::{
 };
 use crate::tags::{self, Tag};
 use crate::watch::{Verdict, Watch};
-use crate::{rows, words, wrong_fills, wrong_leaps, wrong_salvage};
+use crate::{rows, words, wrong_fills, wrong_leaps, wrong_salvage, wrong_status};
 
 pub const FAULTS: [&str; 80] = [
     "takes copy 1 unread",
@@ -545,11 +545,11 @@ impl Library for Wrong {
     }
 
     fn sounder_status(&self, words: &[u16], leap_days: &[u32]) -> StatusAnswer {
-        Model.sounder_status(words, leap_days)
+        wrong_status::status(self.0, words, leap_days)
     }
 
     fn sounder_suspect(&self, words: &[u16], leap_days: &[u32], channel: u32, detector: u32) -> SuspectAnswer {
-        Model.sounder_suspect(words, leap_days, channel, detector)
+        wrong_status::suspect(self.0, words, leap_days, (channel, detector))
     }
 
     fn next_field(&self, recording: &[u8], at: usize) -> FieldAnswer {

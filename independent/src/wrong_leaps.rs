@@ -69,7 +69,7 @@ fn forgiven(fault: &str, lent: &[u32]) -> Vec<u32> {
     list
 }
 
-fn leap_days(fault: &str, lent: &[u32]) -> Result<LeapDays, u8> {
+pub(crate) fn leap_days(fault: &str, lent: &[u32]) -> Result<LeapDays, u8> {
     if fault == "refuses a list of 64 days" && lent.len() == 64 {
         return Err(19);
     }
@@ -127,7 +127,7 @@ fn time(fault: &str, tag: &Tag, leap_days: &LeapDays) -> i64 {
     }
 }
 
-fn try_read(fault: &str, bytes: &[u8], leap_days: &LeapDays) -> Result<Tag, u8> {
+pub(crate) fn try_read(fault: &str, bytes: &[u8], leap_days: &LeapDays) -> Result<Tag, u8> {
     spelt(bytes).filter(|tag| in_bounds(fault, tag, leap_days)).ok_or(12)
 }
 
