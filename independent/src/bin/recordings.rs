@@ -12,6 +12,7 @@ use independent::document::header;
 use independent::inputs::{digits, field, recording, scanned, tag_at, Dice};
 use independent::recording::list;
 use independent::rows::{c_of_n, id_of_block, records, LARGEST_N};
+use independent::sounder_blocks::{put_frame, put_number, put_tag};
 use independent::tags::{LeapDays, Tag};
 
 /// A block of the narrowest scan.
@@ -88,14 +89,22 @@ fn on_day_61(ms: i64) -> Tag {
     tag_at(midnight + ms, false)
 }
 
-/// A block with a SPS time, of data or fill.
+/// Words that can be told from their neighbours.
+fn some_words(c: u16) -> Vec<u16> {
+    (0..c).map(|k| k % 61).collect()
+}
+
+/// A block of such words with a SPS time, of data or fill.
 fn made(number: u8, size: u8, c: u16, version: u8, is_fill: bool, time: Tag) -> Vec<u8> {
-    let mut header = header(id_of_block(number), size, version, c);
+    made_of(number, size, version, is_fill, time, &some_words(c))
+}
+
+fn made_of(number: u8, size: u8, version: u8, is_fill: bool, time: Tag, words: &[u16]) -> Vec<u8> {
+    let mut header = header(id_of_block(number), size, version, words.len() as u16);
     header[8] = if is_fill { 0 } else { 1 };
     header[16..24].copy_from_slice(&digits(&time));
-    let words: Vec<u16> = (0..c).map(|k| k % 61).collect();
     let mut dest = vec![0; 32_000];
-    let (answer, length) = write(&header, &words, &mut dest);
+    let (answer, length) = write(&header, words, &mut dest);
     assert_eq!(answer, 0);
     dest.truncate(length);
     dest
@@ -112,10 +121,31 @@ fn over_the_leap_second() -> Vec<Tag> {
     within(second(59), 500, 900).chain(within(second(60), 100, 900)).chain(within(next_year, 100, 500)).collect()
 }
 
+/// The tag of the last star sense, counted from 0.
+const STAR_SENSE: usize = 10;
+
+/// The words of a Sounder documentation block between these pixels: channel 4 detector 2, channel 18 detector 3 and
+/// channel 19 detector 4 are suspect, and there was no star sense, so that its tag is no time.
+fn sounder_words(west: u32, east: u32) -> Vec<u16> {
+    let mut words = some_words(8_040);
+    // GOES-P, SPS 1, Sounder documentation data, first of its series and not the last, block count 1, one record.
+    words[..9].copy_from_slice(&[15, 1, 32, 63, 0, 0, 0, 1, 0]);
+    words[32..42].copy_from_slice(&[0, 0x04, 0, 0, 0, 0, 0, 0, 0x02, 0x10]);
+    put_number(&mut words, 43, 263);
+    put_number(&mut words, 45, 25);
+    for tag in 0..15 {
+        let time = digits(&on_day_61(13_200 + 100 * tag as i64));
+        put_tag(&mut words, tag, if tag == STAR_SENSE { &[0; 8] } else { &time });
+    }
+    put_frame(&mut words, &[12, 100, 397, west, east, 349, 600]);
+    words
+}
+
 /// What the program `sample` makes: a scan of a hundred pixels over midnight; blocks 11; block 3 hit in one copy, hit in
 /// its field, a byte short, under another tag, and short of a header; scans of one pixel that a watch with a limit of
-/// 5,000 ms closes as late, clock back and broken; a scan of one pixel over the leap second at the end of 2008; and block
-/// 2 of 84 words in versions 2 and 3. Block 1 of the broken scan is fill, and blocks 2, 5 and 10 over the leap second are.
+/// 5,000 ms closes as late, clock back and broken; a scan of one pixel over the leap second at the end of 2008; block 2
+/// of 84 words in versions 2 and 3; two Sounder documentation blocks, west and east exchanged in the second. Block 1 of
+/// the broken scan is fill, and blocks 2, 5 and 10 over the leap second are.
 fn sample() -> Vec<u8> {
     let scanned_at = |number: u8, n: usize, is_fill: bool, time: Tag| match number {
         0 => made(0, 8, 8_040, 2, is_fill, time),
@@ -148,6 +178,9 @@ fn sample() -> Vec<u8> {
     }
     add(1, &made(2, 10, 84, 2, false, on_day_61(13_000)));
     add(1, &made(2, 10, 84, 3, false, on_day_61(13_100)));
+    for (ms, west, east) in [(13_200, 600, 1_200), (13_300, 1_200, 600)] {
+        add(1, &made_of(11, 8, 3, false, on_day_61(ms), &sounder_words(west, east)));
+    }
     bytes
 }
 
@@ -219,9 +252,11 @@ fn usage() -> ExitCode {
 mod tests {
     use independent::block::read;
     use independent::header::meaning;
-    use independent::library::OfferAnswer;
+    use independent::library::{OfferAnswer, StatusAnswer, SuspectAnswer};
     use independent::recording::list;
     use independent::rows::LARGEST_C;
+    use independent::status::{detectors, status, suspect, Detector};
+    use independent::tags::Tag;
     use independent::watch::{begin, offer, Verdict};
 
     #[test]
@@ -241,17 +276,26 @@ mod tests {
         assert!(!listing.contains('-'), "{listing}");
     }
 
+    /// The tag and the body of each field of the sample.
+    fn fields() -> Vec<(u8, Vec<u8>)> {
+        let bytes = super::sample();
+        let mut fields = Vec::new();
+        let mut rest = &bytes[..];
+        while let [tag, high, low, body @ ..] = rest {
+            let (body, behind) = body.split_at(256 * *high as usize + *low as usize);
+            fields.push((*tag, body.to_vec()));
+            rest = behind;
+        }
+        fields
+    }
+
     /// What a watch with a limit of 5,000 ms says to the accepted blocks of the sample, by the leap days that are lent.
     fn watched(leap_days: &[u32]) -> Vec<OfferAnswer> {
         let mut watch = begin(5_000).1;
         let mut answers = Vec::new();
-        let bytes = super::sample();
-        let mut rest = &bytes[..];
-        while let [tag, high, low, body @ ..] = rest {
-            let (body, behind) = body.split_at(256 * *high as usize + *low as usize);
-            rest = behind;
-            let answer = read(body, &mut [0; 22_000]);
-            if *tag == 1 && answer.number == 0 {
+        for (tag, body) in fields() {
+            let answer = read(&body, &mut [0; 22_000]);
+            if tag == 1 && answer.number == 0 {
                 let block = meaning(&answer.header).unwrap().block;
                 let valid = answer.header[8].into();
                 answers.push(offer(&mut watch, block, valid, &answer.header[16..24], leap_days));
@@ -279,7 +323,7 @@ mod tests {
         use Verdict::*;
         let whole = [&[Opened][..], &[Kept; 9], &[Complete], &[Stray; 5]].concat();
         let closed = [Opened, Kept, Late, Opened, Kept, ClockBack, Opened, Kept, Broken];
-        [&whole[..], &closed, scan, &[Stray; 2]].concat()
+        [&whole[..], &closed, scan, &[Stray; 4]].concat()
     }
 
     #[test]
@@ -303,6 +347,48 @@ mod tests {
         use Verdict::*;
         let broken = [&[Opened, Kept, Kept][..], &[Refused(12); 5], &[Broken], &[Stray; 2]].concat();
         assert_eq!(verdicts(&[]), with_leap_scan(&broken));
+    }
+
+    /// The words of the sample's last two fields, which are 44 and 45.
+    fn sounder_blocks() -> [Vec<u16>; 2] {
+        let fields = fields();
+        assert_eq!(fields.len(), 45);
+        [43, 44].map(|place| {
+            let (tag, body) = &fields[place];
+            let mut words = vec![0; 8_040];
+            let answer = read(body, &mut words);
+            assert_eq!((*tag, answer.number, answer.words), (1, 0, 8_040));
+            assert_eq!((answer.header[0], answer.header[1], answer.header[7], answer.header[8]), (11, 8, 3, 1));
+            assert_eq!(answer.header[16..23], [0x20, 0x08, 0x06, 0x10, 0x00, 0x01, 0x32 + place as u8 - 43]);
+            words
+        })
+    }
+
+    #[test]
+    fn the_sample_has_a_sounder_block_with_three_suspect_detectors() {
+        let [words, _] = sounder_blocks();
+        let answer = status(&words, &[]);
+        let mut tags = std::array::from_fn(|tag| (0, super::on_day_61(13_200 + 100 * tag as i64)));
+        tags[10] = (12, Tag::default());
+        let frame = [12, 100, 397, 600, 1_200, 349, 600];
+        let wanted =
+            StatusAnswer { suspects: 3, first: (4, 2), raw_count: 263, block_count: 25, frame, tags, ..answer };
+        assert_eq!((answer.number, answer.word), (0, 0));
+        assert_eq!(answer, wanted);
+        let is_suspect = |(channel, detector): &Detector| suspect(&words, &[], *channel, *detector).suspect;
+        assert_eq!(detectors().filter(is_suspect).collect::<Vec<_>>(), [(4, 2), (18, 3), (19, 4)]);
+        // Its SAD ID, and the words that nothing is put into.
+        assert_eq!(words[..10], [15, 1, 32, 63, 0, 0, 0, 1, 0, 9]);
+        assert!((46..58).chain([178, 179]).chain(194..8_040).all(|k| words[k] as usize == k % 61));
+    }
+
+    #[test]
+    fn the_last_field_of_the_sample_has_its_pixels_exchanged() {
+        let [good, words] = sounder_blocks();
+        assert_eq!(status(&words, &[]), StatusAnswer::refused(22, 189));
+        assert_eq!(suspect(&words, &[], 4, 2), SuspectAnswer::refused(22, 189));
+        let differ: Vec<usize> = (1..=8_040).filter(|number| words[number - 1] != good[number - 1]).collect();
+        assert_eq!(differ, [187, 188, 189, 190]);
     }
 
     #[test]
