@@ -71,7 +71,7 @@ unfolding askedOf
 asking = record {
   outside = λ status c d n. sym (no _ refl (is-outside c d n) refl);
   taken = λ status c d w. ap (λ (a : Asked). a .number) (asked status c d (c * 4 + d - 5) w (omega arith));
-  suspect = λ status c d i _ w e.
+  suspect = λ status c d i w e.
       let s = asked-bit status c d i w e in
       let b = as-sent status i (omega arith) in
       (λ t. sym b ∙ eqb-true (bit status i) 1 (sym s ∙ t), λ t. s ∙ eq-eqb (bit status i) 1 (b ∙ t));

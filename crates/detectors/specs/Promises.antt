@@ -23,7 +23,7 @@ pub record Inside (channel detector : ℕ) : Type 0 where
 pub record Asking : Type 0 where
   pub outside : (status : List ℕ) (c d : ℕ) → (Inside c d → ⊥) → askedOf status c d ≡ record { number = 13; suspect = false }
   pub taken : (status : List ℕ) (c d : ℕ) → Inside c d → askedOf status c d .number ≡ 0
-  pub suspect : (status : List ℕ) (c d i : ℕ) → length status ≡ 10 → Inside c d → i + 5 ≡ c * 4 + d
+  pub suspect : (status : List ℕ) (c d i : ℕ) → Inside c d → i + 5 ≡ c * 4 + d
       → (askedOf status c d .suspect ≡ true) ↔ (getD (sent status) i 0 ≡ 1)
 
 abbrev pub isSuspect : List ℕ → ℕ → ℕ → Bool

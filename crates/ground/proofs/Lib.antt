@@ -3,3 +3,4 @@ pub mod LawsGrounds
 pub mod LawsTests
 pub mod LawsWalk
 pub mod LawsFilling
+pub mod LawsLowest

@@ -1,13 +1,13 @@
--- What is known of a block of eight-bit words that is not refused.
+-- What is known of a block of eight-bit words that is not refused, and on which ground one is.
 -- Assumes nothing.
 use mathlib.Core.Path.{_≡_, refl, sym, ap, _∙_}
 use mathlib.Core.Bool.{Bool, true, false, not, _||_}
 use mathlib.Core.List.{List, [], _∷_, foldl}
-use Prim.Native.Nat.{ℕ, zero, suc, _<_}
+use Prim.Native.Nat.{ℕ, zero, suc, _≤_, _<_}
 use native.Mathlib.Omega.{arith}
 use lib.Dec.{eqb, ltb}
 use lib.ListN.{length, getD}
-use borrow.Author.Tests.{eqb-true, ltb-false}
+use borrow.Author.Tests.{eqb-true, eq-eqb, ne-eqb, ltb-false, le-ltb}
 use Rattle.ground.proofs.LawsTests.{never}
 use Rattle.ground.specs.Choice.{pick}
 use Rattle.parity.specs.Words.{blockWords, anyLarge, groundOf}
@@ -44,3 +44,26 @@ small-words words h = none-large words (by-test (eqb (length words) blockWords) 
     by-test true true e z = absurd (omega arith)
     by-test true false e z = e
     by-test false u e z = absurd (omega arith)
+
+-- ---- the ground, from the words
+
+no-large : (words : List ℕ) → ((i : ℕ) → getD words i 0 ≤ 255) → anyLarge words ≡ false
+unfolding anyLarge
+no-large [] h = refl
+no-large (w ∷ ws) h = ap (λ (t : Bool). foldl (λ found x. found || ltb 255 x) t ws) (le-ltb 255 w (h 0)) ∙ no-large ws (λ i. h (suc i))
+
+pub wrong-length : (words : List ℕ) → (length words ≡ 8040 → ⊥) → groundOf words ≡ 8
+unfolding groundOf
+wrong-length words h = rw (ne-eqb (length words) 8040 h)
+
+pub large-word : (words : List ℕ) → length words ≡ 8040 → (i : ℕ) → 255 < getD words i 0 → groundOf words ≡ 14
+unfolding groundOf
+large-word words h i l = rw (eq-eqb (length words) 8040 h) (by (anyLarge words) refl)
+  where
+    by : (t : Bool) → anyLarge words ≡ t → _≡_ {A = ℕ} (pick t 14 0) 14
+    by true e = refl
+    by false e = absurd (omega (arith, none-large words e i))
+
+pub plain-words : (words : List ℕ) → length words ≡ 8040 → ((i : ℕ) → getD words i 0 ≤ 255) → groundOf words ≡ 0
+unfolding groundOf
+plain-words words h small = rw (eq-eqb (length words) 8040 h, no-large words small)

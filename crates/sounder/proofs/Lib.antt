@@ -1,3 +1,5 @@
 pub mod LawsFrame
 pub mod LawsWords
 pub mod LawsJudging
+pub mod KeepsFrame
+pub mod KeepsSounder
