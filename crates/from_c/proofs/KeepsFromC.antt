@@ -5,7 +5,7 @@ use native.Mathlib.Omega.{arith}
 use mathlib.Core.Path.{_≡_, refl, sym, ap, _∙_, subst}
 use mathlib.Core.Logic.{_⊎_, inl, inr, ⊎-elim}
 use mathlib.Core.Bool.{Bool, true, false, not, _||_}
-use mathlib.Core.List.{List, [], _∷_, _++_}
+use mathlib.Core.List.{List, [], _∷_, _++_, map}
 use lib.Dec.{lit≤, eqb, ltb, leb}
 use lib.Count.{ones}
 use lib.ListN.{length, getD, drop, replicate}
@@ -38,6 +38,16 @@ use Rattle.tag.specs.declared.Tag.{Tag}
 use Rattle.tag.proofs.KeepsTable.{all-differ}
 use Rattle.time.proofs.KeepsTable.{row9, across-leap}
 use Rattle.time.proofs.LawsYears.{quick}
+use Rattle.detectors.specs.Status.{channelOf, detectorOf}
+use Rattle.detectors.specs.declared.First.{First}
+use Rattle.detectors.specs.declared.First.the-variants.{Detector, Nobody}
+use Rattle.sounder.specs.Judging as Sounder
+use Rattle.sounder.specs.Judging.{statusOf, askedOf}
+use Rattle.sounder.specs.declared.Status.{Status}
+use Rattle.sounder.specs.declared.Asked.{Asked}
+use Rattle.sounder.proofs.KeepsSounder.{asking}
+use Rattle.c_sounder.specs.Rows as Rows
+use Rattle.c_sounder.specs.Rows.{fieldsIn}
 use Rattle.watch_rule.specs.Rules.{inTime, ruleOf}
 use Rattle.watch_rule.specs.declared.Closing.the-variants.{ClockBack, Late, Broken, Complete}
 use Rattle.watch_bounds.specs.Bounds.{refusalOf}
@@ -68,7 +78,7 @@ use Rattle.c_watch.specs.Watches.{watchIn, numbersOfWatch, leaves, rowAfter, ro
 use Rattle.c_recording.specs.Told.{codeOf, lineFrom, putNumber}
 use Rattle.c_recording.proofs.KeepsTold.{keeps-numbers, puts-text}
 use Rattle.scope.specs.Notions.{Reason, _if_, FirstOf}
-use Rattle.from_c.specs.FromC.{mark, time, watch, watchAt, code, Tells, Puts, FromC, RowsFromC}
+use Rattle.from_c.specs.FromC.{mark, time, watch, watchAt, channel, detector, code, Tells, Puts, FromC, RowsFromC}
 use Rattle.from_c.proofs.LawsFromC.{take-cut, room-cut, put-cut, field-cut, place-cut, part-cut, on-same, write-cut, line-cut, listed-cut, follows}
 
 -- ---- marks, times and watches
@@ -252,6 +262,30 @@ module _ {X : Type 0} (n : ℕ) (a d : X) {answer : ℕ} {x : X} (e : answer ≡
   at-others : (answer ≡ 0 → ⊥) → x ≡ d
   at-others h = f ∙ ap (λ (t : Bool). pick t a d) (ne-eqb n 0 (λ z. h (e ∙ z)))
 
+-- ---- the Sounder's status
+
+channel-same : (f : First) → channelOf f ≡ channel f
+channel-same (Detector c d) = refl
+channel-same Nobody = refl
+
+detector-same : (f : First) → detectorOf f ≡ detector f
+detector-same (Detector c d) = refl
+detector-same Nobody = refl
+
+-- the frame has seven fields, whether the block is refused or not
+seven : (leaps words : List ℕ) → fieldsIn (statusOf leaps words .frame) ≡ statusOf leaps words .frame
+unfolding statusOf
+seven leaps words =
+    either (λ (s : Status). fieldsIn (s .frame) ≡ s .frame) (eqb (Sounder.refusalOf leaps words .number) 0) {a = Sounder.acceptedAs leaps words} {d = Sounder.refusedAs (Sounder.refusalOf leaps words)} (λ _. refl) (λ _. refl)
+
+numbers-same : (leaps words : List ℕ) → let s = statusOf leaps words in Rows.numbersOf s ≡ s .word ∷ s .suspects ∷ channel (s .first) ∷ detector (s .first) ∷ s .raw ∷ s .blocks ∷ s .frame
+numbers-same leaps words =
+    let s = statusOf leaps words in
+    λ i. s .word ∷ s .suspects ∷ channel-same (s .first) i ∷ detector-same (s .first) i ∷ s .raw ∷ s .blocks ∷ seven leaps words i
+
+no-257 : (leaps words : List ℕ) (c d : ℕ) → statusOf leaps words .number ≡ 0 → c ≡ 257 → askedOf leaps words c d ≡ record { number = 13; word = 0; suspect = false }
+no-257 leaps words c d z e = asking .outside leaps words c d z (λ w. omega (arith, w .to-channel))
+
 pub from-c : FromC
 from-c = record {
   read = λ _ g x. let p = x .allowed in (p .0, p .1 .1 .1 .1, p .1 .0, p .1 .1 .0 ∙ copies-same (answerOf (g .0 .now) (length (g .1 .0 .now))), p .1 .1 .1 .0);
@@ -264,6 +298,11 @@ from-c = record {
   read-tag = λ _ g x. (x .allowed .0, x .allowed .1 ∙ time-same (readTag (g .1 .0 .now) (g .0 .now) .tag));
   write-tag = λ _ g x. let e = write-cut (g .1 .0 .now) 0 (g .0 .now) in (x .allowed .0 ∙ (λ i. e i .number), x .allowed .1 ∙ (λ i. e i .bytes));
   elapsed = λ _ _ x. let e = x .allowed in (λ i. e i .number, λ i. e i .ms);
+  sounder-status = λ _ g x.
+      let s = statusOf (g .1 .0 .now) (g .0 .now) in
+      (x .allowed .0, x .allowed .1 .0 ∙ numbers-same (g .1 .0 .now) (g .0 .now), x .allowed .1 .1 ∙ (λ i. map (λ t. t .number ∷ time-same (t .tag) i) (s .tags)));
+  sounder-suspect = λ _ g x.
+      (x .allowed .0, x .allowed .1 .0, x .allowed .1 .1 ∙ mark-same (askedOf (g .1 .0 .now) (g .0 .now) (g .1 .1 .0) (g .1 .1 .1 .0) .suspect));
   begin = λ _ g x. (
     λ h. let e = beginning .taken (g .0) h in (x .allowed .0 ∙ (λ i. e i .number), x .allowed .1 ∙ (λ i. rowBegun (e i) (g .1 .0 .now))),
     λ h. let e = beginning .refused (g .0) h in (x .allowed .0 ∙ (λ i. e i .number), x .allowed .1 ∙ (λ i. rowBegun (e i) (g .1 .0 .now))),
@@ -383,6 +422,9 @@ rows-from-c = record {
   read-tag = λ _ g x h d. let e = (λ i. readTag (d i) (h i)) ∙ all-differ in (x .allowed .0 ∙ (λ i. e i .number), λ i. (tt, (tt, ((x .allowed .1 ∙ (λ j. numbersOf (e j .tag))) i, tt))));
   row9 = λ _ g x h k d. let e = x .allowed ∙ (λ i. elapsedOf (d i) (h i) (k i)) ∙ row9 .forward in (λ i. e i .number, λ i. (tt, (tt, (tt, (e i .ms, tt)))));
   leap = λ _ g x h k d. let e = x .allowed ∙ (λ i. elapsedOf (d i) (h i) (k i)) ∙ across-leap .with in (λ i. e i .number, λ i. (tt, (tt, (tt, (e i .ms, tt)))));
+  no-channel = λ _ g x z c.
+      let e = no-257 (g .1 .0 .now) (g .0 .now) (g .1 .1 .0) (g .1 .1 .1 .0) z c in
+      (x .allowed .0 ∙ ap (λ (a : Asked). a .number) e, λ i. (tt, (tt, (tt, (tt, ((x .allowed .1 .0 ∙ ap (λ (a : Asked). a .word) e) i, ((x .allowed .1 .1 ∙ ap (λ (a : Asked). marks.mark (a .suspect)) e) i, tt)))))));
   kept = λ _ g x h b v t d.
       let p = x .allowed in
       let e = (λ i. stepOf (d i) (watchIn (h i)) (upTo 255 (b i)) (upTo 255 (v i)) (t i)) ∙ keeps in

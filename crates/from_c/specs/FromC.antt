@@ -6,7 +6,7 @@ use Prim.Native.Nat.{ℕ, zero, suc, _+_, _*_, _^_, _≤_, _<_, min}
 use mathlib.Core.Path.{_≡_}
 use mathlib.Core.Logic.{_⊎_}
 use mathlib.Core.Bool.{Bool, true, false}
-use mathlib.Core.List.{List, [], _∷_, _++_}
+use mathlib.Core.List.{List, [], _∷_, _++_, map}
 use lib.IntN.{pos}
 use lib.ListN.{length, getD, drop, replicate}
 use contract.Lifetimes.{Lfts}
@@ -26,6 +26,9 @@ use Rattle.parity.specs.declared.Layout.the-variants.{ImagerSpacelook, SounderS
 use Rattle.tag.specs.Tags.{readTag, writeTag}
 use Rattle.time.specs.Times.{elapsedOf}
 use Rattle.tag.specs.declared.Tag.{Tag}
+use Rattle.detectors.specs.declared.First.{First}
+use Rattle.detectors.specs.declared.First.the-variants.{Detector, Nobody}
+use Rattle.sounder.specs.Judging.{statusOf, askedOf}
 use Rattle.watch_rule.specs.declared.Closing.the-variants.{ClockBack, Late, Broken, Complete}
 use Rattle.watch_bounds.specs.declared.Watch.{Watch}
 use Rattle.watch.specs.Verdicts.{numberOf, fillOf, countOf}
@@ -52,6 +55,8 @@ use Rattle.c_parity.proofs.rahmisve_parity_sounder
 use Rattle.c_tags.proofs.rahmisve_read_tag
 use Rattle.c_tags.proofs.rahmisve_write_tag
 use Rattle.c_tags.proofs.rahmisve_elapsed
+use Rattle.c_sounder.proofs.rahmisve_sounder_status
+use Rattle.c_sounder.proofs.rahmisve_sounder_suspect
 use Rattle.c_watch.proofs.rahmisve_watch_begin
 use Rattle.c_watch.proofs.rahmisve_watch_offer
 use Rattle.c_recording.proofs.rahmisve_next_field
@@ -92,6 +97,15 @@ watch w = mark (w .opened) ∷ w .expected ∷ (time (w .last) ++ (w .limit ∷ 
 
 abbrev pub watchAt : List ℕ → Watch
 watchAt row = record { opened = isOn (getD row 0 0); expected = getD row 1 0; last = timeAt 2 row; limit = getD row 9 0; fill = getD row 10 0 }
+
+-- the first suspect detector in numbers, which are zeros where there is none
+abbrev pub channel : First → ℕ
+channel (Detector c d) = c
+channel Nobody = 0
+
+abbrev pub detector : First → ℕ
+detector (Detector c d) = d
+detector Nobody = 0
 
 -- what an offer did
 abbrev pub code : Verdict → ℕ
@@ -151,6 +165,16 @@ pub record FromC : Type 0 where
       (answer ≡ w .number) × (tag ≡ w .bytes))
   pub elapsed : Every rahmisve_elapsed.ended rahmisve_elapsed.Reads.Learnt (λ _ (from, (to, (leaps, _))) answer (_, (_, (_, (ms, _)))).
       (answer ≡ elapsedOf (now leaps) (now from) (now to) .number) × (ms ≡ elapsedOf (now leaps) (now from) (now to) .ms))
+  -- the Sounder's status: the word that 22 names, how many are suspect, channel and detector of the first, both counts, the frame fields; then
+  -- for each tag its answer and its time
+  pub sounder-status : Every rahmisve_sounder_status.ended rahmisve_sounder_status.Reads.Learnt (λ _ (words, (leaps, _)) answer (_, (_, (numbers, (tags, _)))).
+      let s = statusOf (now leaps) (now words) in
+      (answer ≡ s .number)
+      × (numbers ≡ s .word ∷ s .suspects ∷ channel (s .first) ∷ detector (s .first) ∷ s .raw ∷ s .blocks ∷ s .frame)
+      × (tags ≡ map (λ t. t .number ∷ time (t .tag)) (s .tags)))
+  pub sounder-suspect : Every rahmisve_sounder_suspect.ended rahmisve_sounder_suspect.Reads.Learnt (λ _ (words, (leaps, (c, (d, _)))) answer (_, (_, (_, (_, (word, (suspect, _)))))).
+      let a = askedOf (now leaps) (now words) c d in
+      (answer ≡ a .number) × (word ≡ a .word) × (suspect ≡ mark (a .suspect)))
   -- the scan watch: a limit above 3,600,000 ms is 16, and the watch is as it was
   pub begin : Every rahmisve_watch_begin.ended rahmisve_watch_begin.Reads.Learnt (λ _ (limit, (row, _)) answer (_, (begun, _)).
       (limit ≤ 3600000 → (answer ≡ 0) × (begun ≡ 0 ∷ 0 ∷ 0 ∷ 0 ∷ 0 ∷ 0 ∷ 0 ∷ 0 ∷ 0 ∷ limit ∷ 0 ∷ []))
@@ -225,6 +249,9 @@ pub record RowsFromC : Type 0 where
   pub leap : Every rahmisve_elapsed.ended rahmisve_elapsed.Reads.Learnt (λ _ (from, (to, (leaps, _))) answer left.
       now from ≡ 0x20 ∷ 0x16 ∷ 0x36 ∷ 0x62 ∷ 0x35 ∷ 0x95 ∷ 0x90 ∷ 0x00 ∷ [] → now to ≡ 0x20 ∷ 0x17 ∷ 0x00 ∷ 0x10 ∷ 0x00 ∷ 0x00 ∷ 0x00 ∷ 0x00 ∷ [] → now leaps ≡ 2016366 ∷ []
       → (answer ≡ 0) × (left ≡ (tt, (tt, (tt, (pos 2000, tt))))))
+  -- the Sounder has no channel 257, which is not channel 1
+  pub no-channel : Every rahmisve_sounder_suspect.ended rahmisve_sounder_suspect.Reads.Learnt (λ _ (words, (leaps, (c, _))) answer left.
+      statusOf (now leaps) (now words) .number ≡ 0 → c ≡ 257 → (answer ≡ 13) × (left ≡ (tt, (tt, (tt, (tt, (0, (0, tt))))))))
   -- block 3 comes to an open watch that expects it, 2,123 ms after the last tag, with the mark off, and is fill as block 0 was
   pub kept : Every rahmisve_watch_offer.ended rahmisve_watch_offer.Reads.Learnt (λ _ (row, (block, (valid, (tag, (leaps, _))))) answer left.
       now row ≡ 1 ∷ 3 ∷ 1987 ∷ 234 ∷ 21 ∷ 43 ∷ 56 ∷ 789 ∷ 1 ∷ 5000 ∷ 1 ∷ [] → block ≡ 3 → valid ≡ 2 → now tag ≡ 0x19 ∷ 0x87 ∷ 0x23 ∷ 0x42 ∷ 0x14 ∷ 0x35 ∷ 0x89 ∷ 0x12 ∷ []

@@ -45,7 +45,7 @@ xor = record { none = none; one-more = one-more }
 
 -- ---- a word above 255
 
-abbrev Large : List ℕ → Type 0
+abbrev pub Large : List ℕ → Type 0
 Large ws = (i : ℕ) × (255 < getD ws i 0)
 
 module _ (found : Bool) (w : ℕ) (ws : List ℕ) where
@@ -75,7 +75,7 @@ tells-large-from : (found : Bool) (ws : List ℕ) → Tells (foldl (λ f w. f ||
 tells-large-from found [] = told-as (λ e. inl e, ⊎-elim (λ e. e) (λ p. absurd (omega (arith, p .1)))) (tells-true found)
 tells-large-from found (w ∷ ws) = told-as (large-there found w ws, large-back found w ws) (tells-large-from (found || ltb 255 w) ws)
 
-tells-large : (ws : List ℕ) → Tells (anyLarge ws) (Large ws)
+pub tells-large : (ws : List ℕ) → Tells (anyLarge ws) (Large ws)
 unfolding anyLarge
 tells-large ws = told-as (⊎-elim (λ e. absurd (tells-true false .no refl e)) (λ p. p), λ p. inr p) (tells-large-from false ws)
 

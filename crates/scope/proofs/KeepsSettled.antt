@@ -53,6 +53,11 @@ settled =
         λ _ _ x y. (same (x .allowed) (y .allowed), refl),
         λ _ _ x y. (same (x .allowed) (y .allowed), refl),
       );
+      detectors = (
+        λ _ _ x y. (same (x .allowed) (y .allowed), refl),
+        λ _ _ x y. (same (x .allowed) (y .allowed), refl),
+        λ _ _ x y. (same (x .allowed) (y .allowed), refl),
+      );
       calendar = (
         λ _ _ x y. (same (x .allowed) (y .allowed), refl),
         λ _ _ x y. (same (x .allowed) (y .allowed), refl),
@@ -67,6 +72,10 @@ settled =
         λ _ _ x y. (same (x .allowed) (y .allowed), refl),
       );
       time = (
+        λ _ _ x y. (same (x .allowed) (y .allowed), refl),
+        λ _ _ x y. (same (x .allowed) (y .allowed), refl),
+      );
+      sounder = (
         λ _ _ x y. (same (x .allowed) (y .allowed), refl),
         λ _ _ x y. (same (x .allowed) (y .allowed), refl),
       );
@@ -139,6 +148,16 @@ settled =
         λ _ _ x y. (same (x .allowed .0) (y .allowed .0), λ i. (tt, (tt, (same (x .allowed .1) (y .allowed .1) i, tt)))),
         λ _ _ x y. (same (x .allowed .0) (y .allowed .0), λ i. (tt, (tt, (same (x .allowed .1) (y .allowed .1) i, tt)))),
         λ _ _ x y. let e = same (x .allowed) (y .allowed) in (λ i. e i .number, λ i. (tt, (tt, (tt, (e i .ms, tt))))),
+      );
+      c-sounder = (
+        λ _ _ x y. (
+          same (x .allowed .0) (y .allowed .0),
+          λ i. (tt, (tt, (same (x .allowed .1 .0) (y .allowed .1 .0) i, (same (x .allowed .1 .1) (y .allowed .1 .1) i, tt)))),
+        ),
+        λ _ _ x y. (
+          same (x .allowed .0) (y .allowed .0),
+          λ i. (tt, (tt, (tt, (tt, (same (x .allowed .1 .0) (y .allowed .1 .0) i, (same (x .allowed .1 .1) (y .allowed .1 .1) i, tt)))))),
+        ),
       );
       c-watch = (
         λ _ _ x y. (same (x .allowed .0) (y .allowed .0), λ i. (tt, (same (x .allowed .1) (y .allowed .1) i, tt))),

@@ -189,7 +189,7 @@ bit-in-front n xs i l =
     sym (front-at (sent (take n xs)) (sent (drop n xs)) i (omega (arith, length-spell 8 (take n xs))))
     ∙ ap (λ (bs : List ℕ). getD bs i 0) (sym (spell-append 8 (take n xs) (drop n xs)) ∙ ap sent (take-append-drop n xs))
 
-fill-bit : (k : ℕ) (field : List ℕ) → allZero (drop k (sent field)) ≡ false → (i : ℕ) × (k ≤ i) × (i < length field * 8) × (getD (sent field) i 0 ≡ 1)
+pub fill-bit : (k : ℕ) (field : List ℕ) → allZero (drop k (sent field)) ≡ false → (i : ℕ) × (k ≤ i) × (i < length field * 8) × (getD (sent field) i 0 ≡ 1)
 fill-bit k field e =
     let r = one-bit (drop k (sent field)) (below-drop 2 k (sent field) (spell-below 8 field)) e in
     (k + r .0, omega arith, omega (arith, r .1, length-drop k (sent field), length-spell 8 field), sym (getD-drop k (sent field) (r .0) 0) ∙ r .2)

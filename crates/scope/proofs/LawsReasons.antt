@@ -108,3 +108,14 @@ tell-joined [] [] hs ss h k = k tt tt
 tell-joined [] (r ∷ rs) hs ss h k = absurd h
 tell-joined (g ∷ gs) [] hs ss h k = absurd h
 tell-joined (g ∷ gs) (r ∷ rs) hs ss h k = (h .0, h .1, λ e n. tell-joined gs rs hs ss (h .2 e n) (λ es ns. k (e, es) (n, ns)))
+
+-- none has the number 0, which is acceptance
+abbrev pub NoZero : List Reason → Type 0
+NoZero [] = Unit {0}
+NoZero (r ∷ rs) = (r .number ≡ 0 → ⊥) × NoZero rs
+
+-- reasons tested one row behind another: the second row decides where the first gave 0, and only there
+pub behind : (rs more : List Reason) → NoZero rs → {k m : ℕ} → FirstOf rs k → ((k ≡ 0 → ⊥) → m ≡ k) → (k ≡ 0 → FirstOf more m) → FirstOf (rs ++ more) m
+behind [] more u h same f = f h
+behind (r ∷ rs) more u (inl h) same f = inl (h .0, same (λ z. u .0 (sym (h .1) ∙ z)) ∙ h .1)
+behind (r ∷ rs) more u (inr h) same f = inr (h .0, behind rs more (u .1) (h .1) same f)

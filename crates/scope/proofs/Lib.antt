@@ -11,6 +11,7 @@ pub mod KeepsParity
 pub mod KeepsWatch
 pub mod KeepsLeapSeconds
 pub mod KeepsFillBlocks
+pub mod KeepsSounder
 pub mod KeepsTable
 pub mod KeepsDemands
 pub mod KeepsRecording

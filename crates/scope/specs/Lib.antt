@@ -9,6 +9,7 @@ pub mod Parity
 pub mod Watch
 pub mod LeapSeconds
 pub mod FillBlocks
+pub mod Sounder
 pub mod Table
 pub mod Demands
 pub mod Recording

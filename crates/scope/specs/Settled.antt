@@ -31,6 +31,9 @@ use Rattle.placement.proofs.place
 use Rattle.parity.proofs.parity_of
 use Rattle.parity.proofs.ground_of
 use Rattle.parity.proofs.check_sections
+use Rattle.detectors.proofs.spare_is_zero
+use Rattle.detectors.proofs.suspects_of
+use Rattle.detectors.proofs.ask
 use Rattle.calendar.proofs.days_in
 use Rattle.calendar.proofs.is_good_list
 use Rattle.calendar.proofs.is_listed
@@ -42,6 +45,8 @@ use Rattle.tag.proofs.read_tag
 use Rattle.tag.proofs.write_tag
 use Rattle.time.proofs.between
 use Rattle.time.proofs.elapsed
+use Rattle.sounder.proofs.judge
+use Rattle.sounder.proofs.ask as sounder_ask
 use Rattle.watch_rule.proofs.rule_of
 use Rattle.watch_bounds.proofs.too_long
 use Rattle.watch_bounds.proofs.lent
@@ -84,6 +89,8 @@ use Rattle.c_tags.proofs.numbers_of
 use Rattle.c_tags.proofs.rahmisve_read_tag
 use Rattle.c_tags.proofs.rahmisve_write_tag
 use Rattle.c_tags.proofs.rahmisve_elapsed
+use Rattle.c_sounder.proofs.rahmisve_sounder_status
+use Rattle.c_sounder.proofs.rahmisve_sounder_suspect
 use Rattle.c_watch.proofs.rahmisve_watch_begin
 use Rattle.c_watch.proofs.rahmisve_watch_offer
 use Rattle.c_recording.proofs.rahmisve_next_field
@@ -115,11 +122,13 @@ pub record AllSettled : Type 0 where
   pub placement : Settled place.ended place.Reads.Learnt
   pub parity : Settled parity_of.ended parity_of.Reads.Learnt × Settled ground_of.ended ground_of.Reads.Learnt
       × Settled check_sections.ended check_sections.Reads.Learnt
+  pub detectors : Settled spare_is_zero.ended spare_is_zero.Reads.Learnt × Settled suspects_of.ended suspects_of.Reads.Learnt × Settled ask.ended ask.Reads.Learnt
   pub calendar : Settled days_in.ended days_in.Reads.Learnt × Settled is_good_list.ended is_good_list.Reads.Learnt
       × Settled is_listed.ended is_listed.Reads.Learnt × Settled listed_before.ended listed_before.Reads.Learnt
   pub tag : Settled in_bounds.ended in_bounds.Reads.Learnt × Settled zero_tag.ended zero_tag.Reads.Learnt × Settled tag_read_by.ended tag_read_by.Reads.Learnt
       × Settled read_tag.ended read_tag.Reads.Learnt × Settled write_tag.ended write_tag.Reads.Learnt
   pub time : Settled between.ended between.Reads.Learnt × Settled elapsed.ended elapsed.Reads.Learnt
+  pub sounder : Settled judge.ended judge.Reads.Learnt × Settled sounder_ask.ended sounder_ask.Reads.Learnt
   pub watch-rule : Settled rule_of.ended rule_of.Reads.Learnt
   pub watch-bounds : Settled too_long.ended too_long.Reads.Learnt × Settled lent.ended lent.Reads.Learnt × Settled tested.ended tested.Reads.Learnt
   pub watch : Settled begin.ended begin.Reads.Learnt × Settled step.ended step.Reads.Learnt × Settled offer.ended offered
@@ -141,6 +150,7 @@ pub record AllSettled : Type 0 where
   pub c-tags : Settled tag_of.ended tag_of.Reads.Learnt × Settled numbers_of.ended numbers_of.Reads.Learnt
       × Settled rahmisve_read_tag.ended rahmisve_read_tag.Reads.Learnt × Settled rahmisve_write_tag.ended rahmisve_write_tag.Reads.Learnt
       × Settled rahmisve_elapsed.ended rahmisve_elapsed.Reads.Learnt
+  pub c-sounder : Settled rahmisve_sounder_status.ended rahmisve_sounder_status.Reads.Learnt × Settled rahmisve_sounder_suspect.ended rahmisve_sounder_suspect.Reads.Learnt
   pub c-watch : Settled rahmisve_watch_begin.ended rahmisve_watch_begin.Reads.Learnt × Settled rahmisve_watch_offer.ended rahmisve_watch_offer.Reads.Learnt
   pub c-recording : Settled rahmisve_next_field.ended rahmisve_next_field.Reads.Learnt × Settled rahmisve_line.ended rahmisve_line.Reads.Learnt
       × Settled rahmisve_first_text.ended rahmisve_first_text.Reads.Learnt × Settled rahmisve_line_text.ended rahmisve_line_text.Reads.Learnt
