@@ -1,7 +1,9 @@
 // Makes a recording on standard output, through the proved writers, so that a newcomer has something to list and to watch: a whole scan of
 // version 2, blocks 11 of every version and size, damaged fields, three scans that a watch with a limit of 5,000 ms closes early, one of
-// them with a fill block, a whole scan over a leap second with three of them, and block 2 with three records and with four.
-ghost use Prim.Native.Nat.{_+_, _<_};
+// them with a fill block, a whole scan over a leap second with three of them, block 2 with three records and with four, and two Sounder
+// documentation blocks, one of which is refused as such.
+ghost use Prim.Native.Nat.{_+_, _<_, _≤_};
+ghost use lib.ListN.{length};
 use header::EXTRA_WORDS;
 use libc::STDERR_FILENO;
 use libc::STDOUT_FILENO;
@@ -34,6 +36,25 @@ const LEAP_DAY: u16 = 366;
 
 // Where a scan over midnight begins, behind 23:59:00.000.
 const SCAN: u32 = 59500;
+
+const SOUNDER_WORDS: usize = 8040;
+
+// Where a Sounder documentation block has its detector status, words 33 to 42, its raw count, words 43 and 44, its block count, words 45
+// and 46, its tags, words 59 to 178, and its frame fields, words 181 to 194.
+const STATUS: usize = 32;
+
+const RAW_COUNT: usize = 42;
+
+const BLOCK_COUNT: usize = 44;
+
+const TAGS: usize = 58;
+
+const FRAME: usize = 180;
+
+const TAG_COUNT: usize = 15;
+
+// Which tag is that of the star sense, counted from 0.
+const STAR_SENSE: usize = 10;
 
 // What a block is made of: numbers of its header, and its SPS time.
 struct Block {
@@ -143,17 +164,16 @@ fn put_words(words: &mut [u16]) {
     }
 }
 
-// A block of so many words of the pattern into the room; its bytes.
-fn make(block: Block, pattern: &mut [u16], room: &mut [u8]) -> usize
+// A block of the first words, as many as it has, into the room; its bytes.
+fn make(block: Block, words: &[u16], room: &mut [u8]) -> usize
     requires { ⌜ block .words < 65534 ⌝ }
 {
     let end = block.words as usize;
     let header = header_of(block);
-    put_words(pattern);
-    if pattern.len() < end {
+    if words.len() < end {
         return 0;
     }
-    let written = writer::write(&header, &pattern[..end], room);
+    let written = writer::write(&header, &words[..end], room);
     written.bytes
 }
 
@@ -169,7 +189,8 @@ fn put_damaged(block: Block, tag: u8, at: usize, bit: u8, less: usize) -> bool
 {
     let mut pattern = [0u16; MOST_WORDS];
     let mut room = [0u8; BLOCK_BYTES];
-    let end = make(block, &mut pattern, &mut room);
+    put_words(&mut pattern);
+    let end = make(block, &pattern, &mut room);
     turn_over(&mut room, at, bit);
     if end < less {
         return true;
@@ -314,6 +335,112 @@ fn put_second(ms: u32) -> bool
     put_counted(2, 10, 84, 2, at(DAY, ms)) && put_counted(2, 10, 84, 3, at(DAY, ms + 100))
 }
 
+// Bytes as words, over those from `at` on.
+fn lay_bytes(bytes: &[u8], words: &mut [u16; SOUNDER_WORDS], at: usize)
+    requires { ⌜ at + length (now bytes) ≤ 8040 ⌝ }
+{
+    let mut i: usize = 0;
+    while i < bytes.len() {
+        words[at + i] = bytes[i] as u16;
+        i += 1;
+    }
+}
+
+// A number as two words, the high one first.
+fn lay_number(n: u16, words: &mut [u16; SOUNDER_WORDS], at: usize)
+    requires { ⌜ at + 2 ≤ 8040 ⌝ }
+{
+    words[at] = n / 256;
+    words[at + 1] = n % 256;
+}
+
+// The SAD ID: GOES-P, SPS 1, Sounder documentation data, the first block of its series, block count 1.
+fn lay_id(words: &mut [u16; SOUNDER_WORDS]) {
+    let id = [15, 1, 32, 63, 0, 0, 0, 1, 0];
+    lay_bytes(&id, words, 0);
+}
+
+// Suspect are channel 4 detector 2, channel 18 detector 3 and channel 19 detector 4.
+fn lay_status(words: &mut [u16; SOUNDER_WORDS]) {
+    let status = [0, 0x04, 0, 0, 0, 0, 0, 0, 0x02, 0x10];
+    lay_bytes(&status, words, STATUS);
+}
+
+// Tag k, counted from 0: the times are 100 ms apart, and there was no star sense.
+fn tag_bytes(k: usize, ms: u32) -> [u8; 8]
+    requires { ⌜ (k < 15) × (ms + 1400 < 4294967296) ⌝ }
+{
+    if k == STAR_SENSE {
+        return [0; 8];
+    }
+    bytes_of(at(DAY, ms + 100 * k as u32))
+}
+
+fn lay_tags(ms: u32, words: &mut [u16; SOUNDER_WORDS])
+    requires { ⌜ ms + 1400 < 4294967296 ⌝ }
+{
+    let mut k: usize = 0;
+    while k < TAG_COUNT {
+        let bytes = tag_bytes(k, ms);
+        lay_bytes(&bytes, words, TAGS + 8 * k);
+        k += 1;
+    }
+}
+
+// The frame fields, between these pixels.
+fn lay_frame(west: u16, east: u16, words: &mut [u16; SOUNDER_WORDS]) {
+    lay_number(12, words, FRAME);
+    lay_number(100, words, FRAME + 2);
+    lay_number(397, words, FRAME + 4);
+    lay_number(west, words, FRAME + 6);
+    lay_number(east, words, FRAME + 8);
+    lay_number(349, words, FRAME + 10);
+    lay_number(600, words, FRAME + 12);
+}
+
+// The words of a Sounder documentation block: the pattern, and over it what such a block says. Its tags begin at a time.
+fn lay_documentation(ms: u32, west: u16, east: u16, words: &mut [u16; SOUNDER_WORDS])
+    requires { ⌜ ms + 1400 < 4294967296 ⌝ }
+{
+    put_words(words);
+    lay_id(words);
+    lay_status(words);
+    lay_number(263, words, RAW_COUNT);
+    lay_number(25, words, BLOCK_COUNT);
+    lay_tags(ms, words);
+    lay_frame(west, east, words);
+}
+
+// A block 11 of version 3 that has these words.
+fn put_block_11(time: Tag, words: &[u16; SOUNDER_WORDS]) -> bool {
+    let block = Block {
+        id: 11,
+        size: 8,
+        words: 8040,
+        version: 3,
+        valid: DATA,
+        time: time,
+    };
+    let mut room = [0u8; BLOCK_BYTES];
+    let end = make(block, words, &mut room);
+    put_field(recording::BLOCK, &room, end)
+}
+
+fn put_sounder(time: Tag, ms: u32, west: u16, east: u16) -> bool
+    requires { ⌜ ms + 1400 < 4294967296 ⌝ }
+{
+    let mut words = [0u16; SOUNDER_WORDS];
+    lay_documentation(ms, west, east, &mut words);
+    put_block_11(time, &words)
+}
+
+// Twice the same frame, the second time with west and east exchanged, which is refused.
+fn put_sounders(ms: u32) -> bool
+    requires { ⌜ ms + 1400 < 4294967296 ⌝ }
+{
+    put_sounder(at(DAY, ms), ms, 600, 1200) && put_sounder(at(DAY, ms + 100), ms, 1200, 600)
+}
+
 fn put_all() -> bool {
     put_scan(DAY, 100, PIXELS)
         && put_blocks_11(60600)
@@ -323,6 +450,7 @@ fn put_all() -> bool {
         && put_broken(72500)
         && put_scan(LEAP_DAY, 200, FEW_PIXELS)
         && put_second(73000)
+        && put_sounders(73200)
 }
 
 // Any word, an option or a name, is answered with how it is called.

@@ -1,4 +1,4 @@
--- `sample::make` is safe: it takes no more words than the pattern has.
+-- `sample::make` is safe: it takes no more words than there are.
 -- Assumes nothing.
 use mathlib.Core.Path.{sym}
 use lib.Seq.{length-take-le}
@@ -12,35 +12,22 @@ cast-end c = search needs
 header-of-requires : tie.Need-header-of-requires
 header-of-requires c κs = search needs
 
-put-words-requires : tie.Need-put-words-requires
-put-words-requires c κs = search needs
-
-same-length : tie.Need-same-length
-same-length c = search needs
-
 returns : tie.Need-returns
 returns c = search needs
 
 slice-aggregate-write : tie.Need-slice-aggregate-write
 slice-aggregate-write c = search needs
 
-slice-reshare-prefix-write : tie.Need-slice-reshare-prefix-write
-slice-reshare-prefix-write c = search needs
-
 slice-aggregate-write-2 : tie.Need-slice-aggregate-write-2
 slice-aggregate-write-2 c =
-    let put = c .before .before .before .before .before .put-words in
-    let start = c .before .before .before .before .before .before .before .before .before .before .before in
-    sym (length-take-le (start .args .block .words) (put .last .0) (c .before .before .if1 .left))
+    let a = c .before .before .before .before .before .before .before .args in
+    sym (length-take-le (a .block .words) (a .words .now) (c .before .before .if1 .left))
 
 write-requires : tie.Need-write-requires
 write-requires c κs = search needs
 
-same-length-2 : tie.Need-same-length-2
-same-length-2 c = search needs
-
-same-length-3 : tie.Need-same-length-3
-same-length-3 c = search needs
+same-length : tie.Need-same-length
+same-length c = search needs
 
 returns-2 : tie.Need-returns-2
 returns-2 c = search needs
@@ -51,13 +38,9 @@ make-spec =
     (tie.spec
     cast-end
     header-of-requires
-    put-words-requires
-    same-length
     returns
     slice-aggregate-write
-    slice-reshare-prefix-write
     slice-aggregate-write-2
     write-requires
-    same-length-2
-    same-length-3
+    same-length
     returns-2)
