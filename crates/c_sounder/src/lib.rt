@@ -76,10 +76,12 @@ fn row_of(read: TagRead) -> [u32; 8]
     ]
 }
 
+// The rows begin as copies of the first, and not as zeros: to clear so many bytes the compiler would call `memset`.
 fn rows_of(tags: [TagRead; 15]) -> [[u32; 8]; 15]
     ensures { λ r. ⌜ r ≡ map rowOf tags ⌝ }
 {
-    let mut rows = [[0u32; 8]; TAGS];
+    let first = row_of(tags[0]);
+    let mut rows = [first; TAGS];
     let mut i: usize = 0;
     while i < TAGS {
         rows[i] = row_of(tags[i]);
