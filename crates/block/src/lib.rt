@@ -8,7 +8,7 @@ use copies::Common;
 mod field;
 
 // What reading gives with number 0: the header's 28 bytes, which copies passed, and the count of words; or a refusal's number and zeros.
-#[derive(Drop)]
+#[derive(Clone, Copy)]
 pub struct Answer {
     pub number: u8,
     pub header: [u8; 28],
@@ -19,7 +19,7 @@ pub struct Answer {
 }
 
 // What reading by a header gives: 0 and the count of words, or a refusal's number and 0.
-#[derive(Drop)]
+#[derive(Clone, Copy)]
 pub struct Judged {
     pub number: u8,
     pub words: usize,

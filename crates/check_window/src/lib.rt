@@ -8,7 +8,7 @@ ghost use Rattle.check_window.specs.Turn.{mirror, raw, shown, pushes, chunks, ho
 use check_eight::{check_by_eight, check_from, word_behind};
 
 // Sixteen words of eight bytes, the first that was read first. In each the byte that was read first is the lowest.
-#[derive(Drop)]
+#[derive(Clone, Copy)]
 struct Window {
     s0: u64,
     s1: u64,

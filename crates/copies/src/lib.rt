@@ -14,7 +14,7 @@ pub const COPIES_BYTES: usize = 90;
 pub const COPIES: usize = 3;
 
 // What the three copies have in common, with number 0: the header's 28 bytes, and which copies passed; or a refusal's number and zeros.
-#[derive(Drop)]
+#[derive(Clone, Copy)]
 pub struct Common {
     pub number: u8,
     pub header: [u8; 28],

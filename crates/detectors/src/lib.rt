@@ -5,7 +5,7 @@ ghost use Rattle.bits.specs.Bits.{bits, sent};
 ghost use Rattle.detectors.specs.Status.{detectors, spare_zero, set_in, before_set, place_at, before, suspects_of, inside, asked_of};
 
 // The first suspect detector, where there is one.
-#[derive(Drop)]
+#[derive(Clone, Copy)]
 pub enum First {
     // Its channel, 1 to 19, and its number in it, 1 to 4.
     Detector(u32, u32),
@@ -13,21 +13,21 @@ pub enum First {
 }
 
 // How many detectors are suspect, and the first of them.
-#[derive(Drop)]
+#[derive(Clone, Copy)]
 pub struct Suspects {
     pub count: u32,
     pub first: First,
 }
 
 // Whether a detector is suspect; or refusal 13, and false.
-#[derive(Drop)]
+#[derive(Clone, Copy)]
 pub struct Asked {
     pub number: u8,
     pub suspect: bool,
 }
 
 // The bits of the detectors in the order sent: the first 64, and the last 12.
-#[derive(Drop)]
+#[derive(Clone, Copy)]
 struct Held {
     high: u64,
     low: u64,

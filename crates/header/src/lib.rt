@@ -12,7 +12,7 @@ pub const EXTRA_WORDS: u16 = 2;
 
 // What a header asks for, with number 0; or a refusal's number and zeros. `words` is C, the data words before fill, and `bytes` the
 // length of the field.
-#[derive(Drop)]
+#[derive(Clone, Copy)]
 pub struct Plan {
     pub number: u8,
     pub block: u8,

@@ -7,7 +7,7 @@ ghost use Rattle.parity.specs.Words.{block_words, any_large, ground_of};
 ghost use Rattle.parity.specs.Sections.{xor_of, holds_in, LiesIn, verdicts_on, judged_as, refused_by, sections_of};
 
 // The published layouts whose sections are checked.
-#[derive(Drop)]
+#[derive(Clone, Copy)]
 pub enum Layout {
     // Block 1 of the Imager spacelook set, Table 3-22.
     ImagerSpacelook,
@@ -17,7 +17,7 @@ pub enum Layout {
 
 // A verdict for each section of a layout: true where its parity holds. A layout of fewer than four sections leaves the last ones
 // false, and `count` says how many it has. On a refusal its number, and zeros.
-#[derive(Drop)]
+#[derive(Clone, Copy)]
 pub struct Sections {
     pub number: u8,
     pub count: u8,
@@ -25,7 +25,7 @@ pub struct Sections {
 }
 
 // First word, last word and parity word, counted from 1.
-#[derive(Drop)]
+#[derive(Clone, Copy)]
 struct Section(usize, usize, usize);
 
 const BLOCK_WORDS: usize = 8040;

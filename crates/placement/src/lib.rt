@@ -7,7 +7,7 @@ ghost use Rattle.placement.specs.Placement.{group_of, place_of, refused_by};
 ghost use Rattle.placement.specs.Table.{named_by};
 
 // What a record holds; on a refusal its number, and zeros.
-#[derive(Drop)]
+#[derive(Clone, Copy)]
 pub struct Placed {
     pub number: u8,
     pub channel: u8,
@@ -15,7 +15,7 @@ pub struct Placed {
 }
 
 // Channel and detector. 0 and 0: the block has no such record.
-#[derive(Drop)]
+#[derive(Clone, Copy)]
 struct Held(u8, u8);
 
 const FIRST_INFRARED: u8 = 1;

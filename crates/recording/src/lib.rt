@@ -9,7 +9,7 @@ ghost use Rattle.recording.specs.Lines.{seq_after, refused_line, line_of, room_l
 pub const FRONT: usize = 3;
 
 // What stands in a recording from a byte on.
-#[derive(Drop)]
+#[derive(Clone, Copy)]
 pub enum Found {
     // A whole field: its tag, where its body starts, and how long that is.
     Whole(u8, usize, usize),
@@ -55,7 +55,7 @@ pub fn next_field(bytes: &[u8], at: usize) -> Found
 pub const BLOCK: u8 = 1;
 
 // The number of a field, from 1, and what it is answered; of a refusal the other numbers are zero, and the listing shows dashes for them.
-#[derive(Drop)]
+#[derive(Clone, Copy)]
 pub struct Line {
     pub seq: u64,
     pub answer: u8,

@@ -3,7 +3,7 @@ ghost use Rattle.std.specs.Prelude.{◌≡◌, ◌<◌, length};
 ghost use Rattle.records.specs.Records.{refused_part, part_of, record_of};
 
 // 0 and where the record lies in the words, counted from 0; or a refusal's number, and an empty part.
-#[derive(Drop)]
+#[derive(Clone, Copy)]
 pub struct Part {
     pub number: u8,
     pub start: usize,

@@ -14,10 +14,10 @@ pub const LAST_VERSION: u8 = 3;
 const EIGHTH_DETECTOR_VERSION: u8 = 3;
 
 // Pixels on the two scales of a scan. Numbers of the two kinds are never added to one another.
-#[derive(Drop)]
+#[derive(Clone, Copy)]
 pub struct Infrared(pub u16);
 
-#[derive(Drop)]
+#[derive(Clone, Copy)]
 pub struct Visible(pub u32);
 
 // One infrared pixel spans so many visible ones.
@@ -49,7 +49,7 @@ const UNIT_BITS: usize = 16;
 
 // What a block number allows: words of `size` bits in so many records, `fixed` words and `each` for every infrared pixel of a scan.
 // Where `each` is 0 there is no scan.
-#[derive(Drop)]
+#[derive(Clone, Copy)]
 pub struct Row {
     pub size: u8,
     pub records: u8,

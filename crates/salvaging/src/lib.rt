@@ -20,7 +20,7 @@ pub const SPAN: usize = 8;
 
 // What a salvage gives with number 0: the bytes of the recording, the entries of the report, and how many of these are blocks; or a
 // refusal's number and zeros.
-#[derive(Drop)]
+#[derive(Clone, Copy)]
 pub struct Salvaged {
     pub number: u8,
     pub bytes: usize,

@@ -6,7 +6,7 @@ ghost use Rattle.salvaging.specs.Pieces.{Found, scratch_found};
 use copies::COPIES;
 
 // A start, the copy that makes its block, from 0, and the block's bytes; where there is none, the input's end and 0 bytes.
-#[derive(Drop)]
+#[derive(Clone, Copy)]
 pub(crate) struct Hit {
     pub(crate) start: usize,
     pub(crate) copy: usize,

@@ -56,7 +56,7 @@ const TAG_COUNT: usize = 15;
 const STAR_SENSE: usize = 10;
 
 // What a block is made of: numbers of its header, and its SPS time.
-#[derive(Drop)]
+#[derive(Clone, Copy)]
 struct Block {
     id: u8,
     size: u8,

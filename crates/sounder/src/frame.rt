@@ -7,7 +7,7 @@ ghost use Rattle.sounder.specs.Frame.{first_word, frame_of, outside, is_out, fir
 use crate::words::number_at;
 
 // First word, counted from 1, and the least and the most that may stand in the field.
-#[derive(Drop)]
+#[derive(Clone, Copy)]
 struct Range(u16, u16, u16);
 
 const FIELDS: usize = 7;

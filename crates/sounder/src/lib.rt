@@ -11,7 +11,7 @@ mod frame; // the frame fields and their ranges
 mod words; // words as bytes, as numbers and as tags
 
 // What such a block says. On a refusal its number; with 22 the first word of the frame field; and zeros.
-#[derive(Drop)]
+#[derive(Clone, Copy)]
 pub struct Status {
     pub number: u8,
     pub word: u16,
@@ -24,7 +24,7 @@ pub struct Status {
 }
 
 // Whether a detector is suspect; on a refusal the same number and word, and false.
-#[derive(Drop)]
+#[derive(Clone, Copy)]
 pub struct Asked {
     pub number: u8,
     pub word: u16,
@@ -32,7 +32,7 @@ pub struct Asked {
 }
 
 // Why a block is refused, with the word that 22 names.
-#[derive(Drop)]
+#[derive(Clone, Copy)]
 struct Refusal {
     number: u8,
     word: u16,

@@ -11,25 +11,25 @@ use floating::Reading;
 use parity::Layout;
 
 // What stands at a field and an index: the reading of a number, or the number of a refusal.
-#[derive(Drop)]
+#[derive(Clone, Copy)]
 pub enum Found {
     Read(Reading),
     Refused(u8),
 }
 
 // How many numbers were read; on a refusal its number, and 0.
-#[derive(Drop)]
+#[derive(Clone, Copy)]
 pub struct Filled {
     pub number: u8,
     pub count: usize,
 }
 
 // An array of numbers, four words each: its first word, counted from 1, and how many numbers it has.
-#[derive(Drop)]
+#[derive(Clone, Copy)]
 struct Array(usize, usize);
 
 // How many arrays a layout has, and how many numbers in them.
-#[derive(Drop)]
+#[derive(Clone, Copy)]
 struct Size(usize, usize);
 
 const NUMBER_WORDS: usize = 4;

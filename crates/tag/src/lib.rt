@@ -6,7 +6,7 @@ ghost use Rattle.tag.specs.Tags.{ends_day, good_second, in_bounds, read_by, read
 mod digits; // numbers and the mark out of eight bytes, and back
 
 // The numbers of a tag and its mark. Any are held; `in_bounds` says whether they are a tag's.
-#[derive(Drop)]
+#[derive(Clone, Copy)]
 pub struct Tag {
     pub year: u16,
     pub day: u16,
@@ -18,14 +18,14 @@ pub struct Tag {
 }
 
 // What reading answers: 0 and the tag, or 19 or 12 and the zero tag.
-#[derive(Drop)]
+#[derive(Clone, Copy)]
 pub struct TagRead {
     pub number: u8,
     pub tag: Tag,
 }
 
 // What writing answers: 0 and the bytes, or 19 or 12 and zeros.
-#[derive(Drop)]
+#[derive(Clone, Copy)]
 pub struct TagBytes {
     pub number: u8,
     pub bytes: [u8; 8],

@@ -7,7 +7,7 @@ ghost use Rattle.time.specs.Times.{count_of, time_of};
 use tag::Tag;
 
 // What the time between two lent tags answers: 0 and the milliseconds, or 19 or 12 and zero.
-#[derive(Drop)]
+#[derive(Clone, Copy)]
 pub struct Elapsed {
     pub number: u8,
     pub ms: i64,

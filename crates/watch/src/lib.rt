@@ -13,7 +13,7 @@ mod rules; // what an accepted offer does
 
 // What an offer did; specs/Verdicts.antt has the number of each case. A closing hands over the set of the scan's fill blocks and how many
 // they are.
-#[derive(Drop)]
+#[derive(Clone, Copy)]
 pub enum Verdict {
     Refused(u8),
     Stray,
@@ -22,14 +22,14 @@ pub enum Verdict {
     Closed { why: Closing, fill: u32, count: u32 },
 }
 
-#[derive(Drop)]
+#[derive(Clone, Copy)]
 pub struct Stepped {
     pub next: Watch,
     pub verdict: Verdict,
 }
 
 // What beginning answers: 0 and an idle watch, or 16 and zeros.
-#[derive(Drop)]
+#[derive(Clone, Copy)]
 pub struct Begun {
     pub number: u8,
     pub watch: Watch,

@@ -14,7 +14,7 @@ const LONGEST_WAIT: u32 = 3600000;
 
 // Idle or open. Open, it has the block that it expects next, 1 to 10, the last tag, and which blocks of the scan were fill: a set, bit b
 // for block b. What an idle one holds of the first two is not read, and its set is empty.
-#[derive(Drop)]
+#[derive(Clone, Copy)]
 pub struct Watch {
     pub opened: bool,
     pub expected: u8,

@@ -8,7 +8,7 @@ ghost use Rattle.watch_rule.specs.Rules.{in_time, rule_of};
 pub const LAST_OF_SCAN: u8 = 10;
 
 // How a scan closes.
-#[derive(Drop)]
+#[derive(Clone, Copy)]
 pub enum Closing {
     ClockBack,
     Late,
@@ -17,7 +17,7 @@ pub enum Closing {
 }
 
 // What an open watch does.
-#[derive(Drop)]
+#[derive(Clone, Copy)]
 pub enum Rule {
     Keeps,
     Closes(Closing),

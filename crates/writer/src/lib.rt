@@ -8,7 +8,7 @@ use copies::COPIES_BYTES;
 mod parts;
 
 // 0 and the bytes written, or a refusal's number and 0.
-#[derive(Drop)]
+#[derive(Clone, Copy)]
 pub struct Written {
     pub number: u8,
     pub bytes: usize,
