@@ -11,7 +11,7 @@ use lib.ListN.{length, get_or, drop, length-take, length-drop}
 use lib.Seq.{ext_get_or, get_or-take, get_or-drop}
 use Rattle.ground.specs.Choice.{pick}
 use Rattle.parity.specs.declared.Section.{Section}
-use Rattle.parity.specs.Sections.{xor_of, ◌to◌kept-in◌, first_word, last_word, parity_word, word, words_from, holds_in, judged_as, refused_by, sections_of}
+use Rattle.parity.specs.Sections.{xor_of, ◌to◌kept_in◌, first_word, last_word, parity_word, word, words_from, holds_in, judged_as, refused_by, sections_of}
 use Rattle.parity.specs.Promises.{Row13, ReadsItsOwn, SameOutside, SparesUnread}
 
 pub row_13 : Row13

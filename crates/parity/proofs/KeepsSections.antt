@@ -16,7 +16,7 @@ use Rattle.parity.specs.declared.Layout.{Layout}
 use Rattle.parity.specs.declared.Layout.TheVariants.{ImagerSpacelook, SounderSpacelook}
 use Rattle.parity.specs.declared.Section.{Section}
 use Rattle.parity.specs.declared.Sections.{Sections}
-use Rattle.parity.specs.Sections.{xor_of, ◌to◌kept-in◌, first_word, last_word, parity_word, word, words_from, sections_in, holds_in, verdicts_on}
+use Rattle.parity.specs.Sections.{xor_of, ◌to◌kept_in◌, first_word, last_word, parity_word, word, words_from, sections_in, holds_in, verdicts_on}
 use Rattle.parity.specs.Words.{ground_of}
 use Rattle.parity.specs.Promises.{times_in, Covered, verdict, Judged}
 use Rattle.parity.proofs.LawsSections.{accepts}

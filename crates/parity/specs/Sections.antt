@@ -15,8 +15,8 @@ unfoldable pub xor_of : List ℕ → ℕ
 xor_of = foldl bit_xor 0
 
 -- `223 to 701 kept_in 702` is words 223 to 701, counted from 1, with their parity in word 702.
-infix 70 ◌to◌kept-in◌
-abbrev pub ◌to◌kept-in◌ : ℕ → ℕ → ℕ → Section
+infix 70 ◌to◌kept_in◌
+abbrev pub ◌to◌kept_in◌ : ℕ → ℕ → ℕ → Section
 first to last kept_in parity = (first, last, parity)
 
 abbrev pub first_word : Section → ℕ

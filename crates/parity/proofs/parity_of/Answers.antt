@@ -1,0 +1,31 @@
+-- `parity::parity_of` meets its contract: its loop is a fold by exclusive or.
+-- Assumes nothing.
+use mathlib.Core.Path.{refl}
+use mathlib.Core.List.{foldl}
+use Prim.Native.Nat.{◌-◌}
+use native.Mathlib.Omega.{arith}
+use borrow.Author.Rules.{rules}
+use lib.Bits.{bit_xor}
+use lib.ListN.{length}
+use Rattle.ground.proofs.LawsWalk.{Walking, start, step, finish}
+use Rattle.parity.specs.Sections.{xor_of}
+use Rattle.parity.proofs.parity_of.Goals as goal
+
+pub loop-i-init : goal.loop-i-init
+loop-i-init c = start _ _ _
+
+pub bounds-words-i : goal.bounds-words-i
+bounds-words-i c = omega arith
+
+pub overflow_add-i : goal.overflow_add-i
+overflow_add-i c = omega arith
+
+pub loop-i-smaller : goal.loop-i-smaller
+loop-i-smaller c = omega arith
+
+pub loop-i-preserved : goal.loop-i-preserved
+loop-i-preserved c = step _ _ _ c.loop-i.invariant c.loop-i-test.true refl
+
+pub returns : goal.returns
+unfolding xor_of
+returns c = finish _ _ _ c.loop-i.invariant c.loop-i-test.false
