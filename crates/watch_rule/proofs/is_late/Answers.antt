@@ -5,11 +5,7 @@ use lib.Signed.{lt_z}
 use mir.Syntax.{w64}
 use mir.Facts.{to_z_pos, to_z-of_z}
 use borrow.Author.Rules.{rules}
-use Rattle.watch_rule.proofs.is_late.Statement.{statement}
-use Rattle.watch_rule.proofs.is_late.Tie as tie
+use Rattle.watch_rule.proofs.is_late.Goals as goal
 
-returns : tie.Need-returns
+pub returns : goal.returns
 returns c = λ i. lt_z (to_z_pos w64 {n = c.args.limit} (omega arith) i) (to_z-of_z c.ranges.d i)
-
-pub is-late-spec : {M : Type 1} → statement M
-is-late-spec = tie.close (tie.spec (λ c. search rules) returns)

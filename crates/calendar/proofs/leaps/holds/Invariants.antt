@@ -1,0 +1,15 @@
+-- `calendar::leaps::holds` walks the list: what is found so far, or in the rest, is what is found in the whole.
+-- Assumes nothing.
+use Prim.Native.Nat.{◌-◌}
+use native.Mathlib.Omega.{arith}
+use lib.ListN.{length}
+use borrow.Author.Rules.{rules}
+use Rattle.ground.proofs.LawsWalk.{start}
+use Rattle.calendar.proofs.LawsLeaps.{Finding, find_next, found_all}
+use Rattle.calendar.proofs.leaps.holds.Given as goal
+
+abbrev pub invariant-loop-i : goal.invariant-loop-i
+invariant-loop-i l = Finding l.leaps l.number l.found l.i
+
+abbrev pub decreases-loop-i : goal.decreases-loop-i
+decreases-loop-i l = length l.leaps - l.i

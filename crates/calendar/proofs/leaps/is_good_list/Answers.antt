@@ -1,0 +1,21 @@
+-- `calendar::leaps::is_good_list` tests the length first, then the days.
+-- Assumes nothing.
+use mathlib.Core.Path.{sym, ◌∙◌}
+use mathlib.Core.Bool.{◌&&◌}
+use lib.ListN.{length}
+use borrow.Author.Rules.{rules}
+use borrow.Author.Tests.{lt-leb, le-leb}
+use Rattle.calendar.specs.Leaps.{most_leaps, rises_from, good_list}
+use Rattle.calendar.proofs.leaps.is_good_list.Goals as goal
+
+pub returns-then-leaps-gt-MOST_LEAP_DAYS : goal.returns-then-leaps-gt-MOST_LEAP_DAYS
+unfolding good_list
+returns-then-leaps-gt-MOST_LEAP_DAYS c =
+    let leaps = c.args.leaps.now in
+    λ i. sym (lt-leb (length leaps) most_leaps c.if-leaps-gt-MOST_LEAP_DAYS.true) i && rises_from 0 leaps
+
+pub returns : goal.returns
+unfolding good_list
+returns c =
+    let leaps = c.args.leaps.now in
+    c.rises.ensures ∙ (λ i. sym (le-leb (length leaps) most_leaps c.if-leaps-gt-MOST_LEAP_DAYS.false) i && rises_from 0 leaps)

@@ -1,0 +1,16 @@
+-- `calendar::leaps::rises` walks the list: where the days so far rise, the rest decides.
+-- Assumes nothing.
+use Prim.Native.Nat.{◌-◌}
+use native.Mathlib.Omega.{arith}
+use lib.ListN.{length}
+use borrow.Author.Rules.{rules}
+use borrow.Author.Tests.{not-true, not-false}
+use Rattle.ground.proofs.LawsWalk.{start}
+use Rattle.calendar.proofs.LawsLeaps.{Rising, rise_next, falls, risen}
+use Rattle.calendar.proofs.leaps.rises.Given as goal
+
+abbrev pub invariant-loop-i : goal.invariant-loop-i
+invariant-loop-i l = Rising l.leaps l.before l.i
+
+abbrev pub decreases-loop-i : goal.decreases-loop-i
+decreases-loop-i l = length l.leaps - l.i
