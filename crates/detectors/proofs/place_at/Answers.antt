@@ -1,0 +1,16 @@
+-- `detectors::place_at` meets its contract.
+-- Assumes nothing.
+use mathlib.Core.Path.{refl}
+use borrow.Author.Rules.{rules}
+use borrow.Author.Tests.{lt-ltb, le-ltb}
+use Rattle.ground.proofs.LawsChoice.{yes, no}
+use Rattle.detectors.specs.Status.{place_at}
+use Rattle.detectors.proofs.place_at.Goals as goal
+
+pub returns-then-before : goal.returns-then-before
+unfolding place_at
+returns-then-before c = yes _ refl (lt-ltb _ 76 c.if-before.true) refl
+
+pub returns-else-before : goal.returns-else-before
+unfolding place_at
+returns-else-before c = no _ refl (le-ltb _ 76 c.if-before.false) refl
