@@ -191,7 +191,7 @@ module _ (t : Tag) where
   unfolding paired spelt
   eight_long = refl
 
-module _ (leaps : List ℕ) (t : Tag) (list : good_list leaps ≡ true) (in_bounds : in_bounds leaps t ≡ true) where
+module _ (leaps : List ℕ) (t : Tag) (list : good_list leaps ≡ true) (bounds : in_bounds leaps t ≡ true) where
   abbrev plain : List ℕ
   plain = paired (digits_of_tag t)
 
@@ -199,7 +199,7 @@ module _ (leaps : List ℕ) (t : Tag) (list : good_list leaps ≡ true) (in_boun
   long = omega (arith, eight_long t)
 
   low : get_or plain 2 0 < 128
-  low = byte_three t (day_below leaps t in_bounds)
+  low = byte_three t (day_below leaps t bounds)
 
   digits_again : tag_digits (bytes_of t) ≡ digits_of_tag t
   unfolding bytes_of
@@ -219,9 +219,9 @@ module _ (leaps : List ℕ) (t : Tag) (list : good_list leaps ≡ true) (in_boun
   parts : tag (at 0 4) (at 4 3) (at 7 2) (at 9 2) (at 11 2) (at 13 3) t.flywheel ≡ t
   unfolding spelt
   parts =
-      let b : Bounded leaps t = facts leaps t in_bounds in
+      let b : Bounded leaps t = facts leaps t bounds in
       let s : t.second < 100 = second_below b.second in
-      let d : t.day < 800 = day_below leaps t in_bounds in
+      let d : t.day < 800 = day_below leaps t bounds in
       λ i.
       tag (spells 4 t.year (omega arith) i) (spells 3 t.day (omega arith) i) (spells 2 t.hour (omega arith) i) (spells 2 t.minute (omega arith) i)
       (spells 2 t.second (omega arith) i) (spells 3 t.ms (omega arith) i) t.flywheel
@@ -234,11 +234,13 @@ module _ (leaps : List ℕ) (t : Tag) (list : good_list leaps ≡ true) (in_boun
 
   good_again : good_tag leaps (bytes_of t) ≡ true
   unfolding good_tag
-  good_again = both (eq-eqb (length (bytes_of t)) 8 eight_again) (both (ap decimal digits_again ∙ spelt_decimal t) (ap (in_bounds leaps) tag_again ∙ in_bounds))
+  good_again =
+      both (eq-eqb (length (bytes_of t)) 8 eight_again)
+      (both (ap decimal digits_again ∙ spelt_decimal t) (ap (in_bounds leaps) tag_again ∙ bounds))
 
   read_written : read_tag leaps (write_tag leaps t).bytes ≡ read 0 t
   read_written =
-      (λ i. read_tag leaps (writes leaps t true true list in_bounds i).bytes)
+      (λ i. read_tag leaps (writes leaps t true true list bounds i).bytes)
       ∙ by_list leaps (bytes_of t) list
       ∙ reads leaps (bytes_of t) good_again
       ∙ ap (λ (u : Tag). read 0 u) tag_again

@@ -1,0 +1,9 @@
+-- `tag::in_bounds` makes the definition's row of tests.
+-- Assumes nothing.
+use borrow.Author.Rules.{rules}
+use Rattle.tag.specs.Tags.{in_bounds}
+use Rattle.tag.proofs.in_bounds.Goals as goal
+
+pub returns : goal.returns
+unfolding in_bounds
+returns c = cc
