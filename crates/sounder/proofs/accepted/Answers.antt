@@ -1,0 +1,23 @@
+-- `sounder::accepted` meets its contract, part by part.
+-- Assumes nothing.
+use mathlib.Core.Path.{ap, ◌∙◌}
+use mathlib.Core.List.{List}
+use Prim.Native.Nat.{ℕ}
+use Rattle.detectors.specs.Status.{suspects_of}
+use borrow.Author.Rules.{rules}
+use Rattle.sounder.proofs.accepted.Goals as goal
+
+pub returns : goal.returns
+returns c =
+    let same = c.suspects_of-found.ensures ∙ ap suspects_of c.status_in.ensures in
+    λ i.
+    record {
+      number = 0;
+      word = 0;
+      suspects = (same i).count;
+      first = (same i).first;
+      raw = c.number_at.ensures i;
+      blocks = c.number_at-2.ensures i;
+      frame = c.frame_of-frame.ensures i;
+      tags = c.tags_of-tags.ensures i;
+    }

@@ -1,0 +1,28 @@
+-- `sounder::words::lower` meets its contract: so many words are bytes so far.
+-- Assumes nothing.
+use mathlib.Core.Path.{◌∙◌}
+use Prim.Native.Nat.{◌-◌, ◌%◌}
+use native.Mathlib.Omega.{arith}
+use borrow.Author.Rules.{rules}
+use lib.ListN.{length, length-set}
+use Rattle.ground.proofs.LawsFilling.{Filling, start, next, finish}
+use Rattle.sounder.proofs.LawsWords.{all_bytes}
+use Rattle.sounder.proofs.words.lower.Goals as goal
+
+pub loop-i-init : goal.loop-i-init
+loop-i-init c = start _ _ _ _ c.requires.0
+
+pub bounds-words-i : goal.bounds-words-i
+bounds-words-i c = omega (arith, c.loop-i.invariant.long)
+
+pub loop-i-smaller : goal.loop-i-smaller
+loop-i-smaller c = rw length-set (omega arith)
+
+pub loop-i-preserved : goal.loop-i-preserved
+loop-i-preserved c = next _ _ c.loop-i.invariant c.loop-i-test.true
+
+pub shape_of-bytes : goal.shape_of-bytes
+shape_of-bytes c = c.loop-i.invariant.long ∙ c.requires.0
+
+pub returns : goal.returns
+returns c = finish _ _ c.loop-i.invariant c.loop-i-test.false ∙ all_bytes _ c.requires.1

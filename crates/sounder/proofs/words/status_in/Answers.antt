@@ -1,0 +1,15 @@
+-- `sounder::words::status_in` meets its contract: the ten words are there, and are bytes.
+-- Assumes nothing.
+use native.Mathlib.Omega.{arith}
+use Rattle.parity.proofs.LawsWords.{right_length, small_words}
+use Rattle.sounder.proofs.LawsWords.{part_long, part_small}
+use borrow.Author.Rules.{rules}
+use Rattle.sounder.proofs.words.status_in.Goals as goal
+
+pub slice_bounds-lower-end : goal.slice_bounds-lower-end
+slice_bounds-lower-end c = omega (arith, right_length c.args.words.now c.requires)
+
+pub lower-requires : goal.lower-requires
+lower-requires c =
+    let words = c.args.words.now in
+    (part_long words 32 10 (omega (arith, right_length words c.requires)), part_small words 32 10 (small_words words c.requires))
