@@ -1,0 +1,10 @@
+-- `check_eight::finish` is `finished`, operation for operation.
+-- Assumes nothing.
+use mathlib.Core.Path.{refl}
+use Rattle.check_eight.specs.Eight.{finished}
+use borrow.Author.Rules.{rules}
+use Rattle.check_eight.proofs.finish.Goals as goal
+
+pub returns : goal.returns
+unfolding finished
+returns c = refl
