@@ -2,14 +2,10 @@
 -- Assumes nothing.
 use native.Mathlib.Omega.{arith}
 use Rattle.check_window.proofs.LawsTurn.{mirror_bytes}
-use Rattle.check_window.proofs.number_of.Statement.{statement}
-use Rattle.check_window.proofs.number_of.Tie as tie
+use Rattle.check_window.proofs.number_of.Goals as goal
 
-returns : tie.Need-returns
+pub returns : goal.returns
 returns c =
     let x = c.args in
     mirror_bytes x.a x.b x.c x.d x.e x.f x.g x.h
     (omega arith) (omega arith) (omega arith) (omega arith) (omega arith) (omega arith) (omega arith) (omega arith)
-
-pub number-of-spec : {M : Type 1} → statement M
-number-of-spec = tie.close (tie.spec returns)
