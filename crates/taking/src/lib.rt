@@ -1,4 +1,6 @@
 // Words of `size` bits out of a field of bytes. The meaning is in the crate `bits`, specs/Fields.antt. No size and no length is trusted.
+#![tactic(auto)]
+
 ghost use Rattle.std.specs.Prelude.{◌≡◌, ◌++◌, ◌*◌, ◌≤◌, length, drop};
 ghost use Rattle.bits.specs.Fields.{take_answer, room_taken, words_of};
 
