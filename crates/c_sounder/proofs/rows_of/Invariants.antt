@@ -1,0 +1,22 @@
+-- `c_sounder::rows_of` meets its contract: so many rows are filled so far.
+-- Assumes nothing.
+use mathlib.Core.Path.{sym, subst}
+use mathlib.Core.List.{List}
+use Prim.Native.Nat.{ℕ, ◌+◌, ◌-◌, ◌<◌}
+use native.Mathlib.Omega.{arith}
+use borrow.Author.Rules.{rules}
+use lib.ListN.{length, set}
+use Rattle.ground.proofs.LawsFilling.{Filling, start, next, finish}
+use Rattle.tag.specs.declared.TagRead.{TagRead}
+use Rattle.tag.specs.Tags.{zero_tag}
+use Rattle.c_sounder.specs.Rows.{row_of}
+use Rattle.c_sounder.proofs.rows_of.Given as goal
+
+abbrev pub none : TagRead
+none = record { number = 0; tag = zero_tag }
+
+abbrev pub invariant-loop-i : goal.invariant-loop-i
+invariant-loop-i l = Filling row_of none l.tags l.rows l.i
+
+abbrev pub decreases-loop-i : goal.decreases-loop-i
+decreases-loop-i l = 15 - l.i
