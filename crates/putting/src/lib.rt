@@ -1,5 +1,7 @@
 // Words of `size` bits into a field of bytes, with zeros behind them. The meaning is in the crate `bits`, specs/Fields.antt. No size, no
 // length and no word is trusted.
+#![tactic(auto)]
+
 ghost use Rattle.std.specs.Prelude.{◌≡◌, ◌*◌, ◌^◌, ◌≤◌, length};
 ghost use Rattle.bits.specs.Bits.{Below};
 ghost use Rattle.bits.specs.Fields.{put_answer, field_put, field_of};

@@ -4,7 +4,6 @@ use mathlib.Core.Path.{◌≡◌, refl, sym, ap, ◌∙◌}
 use mathlib.Core.List.{List, ◌++◌, append-nil}
 use Prim.Native.Nat.{ℕ, ◌+◌, ◌-◌, ◌≤◌}
 use native.Mathlib.Omega.{arith}
-use borrow.Author.Rules.{rules}
 use lib.ListN.{length, take, replicate, length-drop}
 use lib.Seq.{take-length}
 use Rattle.room.specs.Laid.{laid}
@@ -15,14 +14,16 @@ use Rattle.bits.proofs.LawsBelow.{below_drop}
 use Rattle.bits.proofs.LawsElements.{to_end}
 use Rattle.bits.proofs.LawsFields.{bytes_put}
 use Rattle.putting.proofs.GroupTurns.{State, ends}
-use Rattle.putting.proofs.bytes.put_bytes.Statement.{statement}
-use Rattle.putting.proofs.bytes.put_bytes.Tie as tie
+use Rattle.putting.proofs.bytes.put_bytes.Goals as goal
 
-put-plain-requires : tie.Need-put-plain-requires
-put-plain-requires c κs =
-    let s = c.before.before.before.before.before.before.before.before in
-    let words = s.args.words.now in
-    ((omega arith, omega arith), simp (to_end, length-drop) (omega arith, below_drop 256 (length words) words s.requires.1))
+pub put_plain-requires : goal.put_plain-requires
+put_plain-requires c =
+    let words = c.args.words.now in
+    record {
+      le_size = (omega arith, omega arith);
+      size_in_bounds = simp (to_end, length-drop) (omega arith);
+      below = simp to_end (below_drop 256 (length words) words c.requires.below);
+    }
 
 -- all words are in front
 passed : (words field room : List ℕ) → Below 256 words → length words ≤ length field → room ≡ laid field 0 words
@@ -41,26 +42,8 @@ passed words field room h fits e =
       long = ap length e ∙ length_laid field 0 words (omega arith);
     }
 
-returns : tie.Need-returns
+pub returns : goal.returns
 returns c =
-    let s = c.before.before.before.before.before.before.before.before.before.before.before in
     ends
-    (passed s.args.words.now s.args.field.now _ s.requires.1 s.requires.0 c.before.before.before.before.before.before.before.put_front.ensures)
-    (omega (arith, s.requires.0)) _ c.before.before.put-plain.ensures
-
-pub put-bytes-spec : {M : Type 1} → statement M
-put-bytes-spec =
-    tie.close
-    (tie.spec
-    (λ c κs. search rules)
-    (λ c. search rules)
-    (λ c. search rules)
-    (λ c. search rules)
-    (λ c. search rules)
-    (λ c. search rules)
-    (λ c. search rules)
-    (λ c. search rules)
-    (λ c. search rules)
-    put-plain-requires
-    (λ c. search rules)
-    returns)
+    (passed c.args.words.now c.args.field.now _ c.requires.below c.requires.words_in_bounds c.put_front.ensures)
+    (omega (arith, c.requires.words_in_bounds)) _ c.put_plain.ensures
