@@ -101,8 +101,8 @@ module _ (block : List ℕ) (m : Meets block) where
           written_parts header words asks_for ∙ (λ i. first i ++ (second i ++ (third i ++ rest_again i))) ∙ whole block
 
     module _ (room : List ℕ) (r : m.words ≤ length room) where
-      header_read : header_read block room ≡ header
-      header_read = answers_truly.header block (length room) b m r
+      header_read_is : header_read block room ≡ header
+      header_read_is = answers_truly.header block (length room) b m r
 
       words_read_is : words_read block room ≡ words
       unfolding words_of
@@ -113,6 +113,6 @@ writes_back block c room lent b e same l =
     let k = accepted_meets block b (length room) e in
     let m = k.0 in
     let put = writes_front (header block m) (words block m) lent (writable block m (length lent) l) in
-    subst (λ (s : List ℕ). Puts s (words_read block room) block lent) (sym (header_read block m b room k.1))
+    subst (λ (s : List ℕ). Puts s (words_read block room) block lent) (sym (header_read_is block m b room k.1))
     (subst (λ (s : List ℕ). Puts (header block m) s block lent) (sym (words_read_is block m b room k.1))
     (subst (λ (s : List ℕ). Puts (header block m) (words block m) s lent) (written_again block m b c same) put))

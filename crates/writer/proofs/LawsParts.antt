@@ -72,8 +72,8 @@ module _ (h ws room : List ℕ) (size bytes : ℕ) (held : Held size (length ws)
       let e : 90 + bytes - 90 ≡ bytes = omega arith in
       ap (put_answer size ws) e ∙ put_answer_is size bytes ws held
 
-  field_put : field_put size ws part ≡ pick (all_fit size ws) (field_of size bytes ws) part
-  field_put =
+  field_put_is : field_put size ws part ≡ pick (all_fit size ws) (field_of size bytes ws) part
+  field_put_is =
       let e : put_answer size ws (length part) ≡ pick (all_fit size ws) 0 14 = ap (put_answer size ws) part_long ∙ put_answer_is size bytes ws held in
       ap₂ (λ (n k : ℕ). pick (eqb n 0) (field_of size k ws) part) e part_long ∙ by (all_fit size ws)
     where
@@ -97,7 +97,7 @@ module _ (h ws room : List ℕ) (size bytes : ℕ) (held : Held size (length ws)
   Done answer after = (answer ≡ pick (all_fit size ws) 0 14) × (after ≡ pick (all_fit size ws) (block_of h size bytes ws ++ drop (block_length bytes) room) room)
 
   pub refused : {answer : ℕ} {one : List ℕ} → answer ≡ put_answer size ws (90 + bytes - 90) → (answer ≡ 0 → ⊥) → one ≡ filled (field_put size ws part) → Done answer one
-  refused {answer} {one} e no_zero put = by (all_fit size ws) (e ∙ answer_is) (put ∙ ap filled field_put)
+  refused {answer} {one} e no_zero put = by (all_fit size ws) (e ∙ answer_is) (put ∙ ap filled field_put_is)
     where
       by : (t : Bool) → answer ≡ pick t 0 14 → one ≡ filled (pick t (field_of size bytes ws) part)
           → (answer ≡ pick t 0 14) × (one ≡ pick t (block_of h size bytes ws ++ drop (block_length bytes) room) room)
@@ -136,7 +136,7 @@ module _ (h ws room : List ℕ) (size bytes : ℕ) (held : Held size (length ws)
 
     pub accepted : {answer : ℕ} {one two three : List ℕ} → answer ≡ put_answer size ws (90 + bytes - 90) → answer ≡ 0 → one ≡ filled (field_put size ws part)
         → two ≡ laid one 0 (copies_of h) → three ≡ laid two (90 + bytes) (bytes_of (check_word (take (90 + bytes - 90) (drop 90 two)))) → Done 0 three
-    accepted {answer} {one} {two} {three} e zero put e₂ e₃ = by (all_fit size ws) (sym zero ∙ e ∙ answer_is) (put ∙ ap filled field_put)
+    accepted {answer} {one} {two} {three} e zero put e₂ e₃ = by (all_fit size ws) (sym zero ∙ e ∙ answer_is) (put ∙ ap filled field_put_is)
       where
         by : (t : Bool) → ◌≡◌ {A = ℕ} 0 (pick t 0 14) → one ≡ filled (pick t (field_of size bytes ws) part)
             → (◌≡◌ {A = ℕ} 0 (pick t 0 14)) × (three ≡ pick t (block_of h size bytes ws ++ drop (block_length bytes) room) room)
