@@ -29,7 +29,7 @@ Settled T allows = SettledUpTo T (λ _ a b. a ≡ b) allows
 
 -- what the contract of `watch::offer` says, read off its clause; of every other function the prover has it ready, as `Learnt`
 abbrev ensured : (κs : Lfts (offer.ended).signature.lifetimes) → Args (offer.ended).signature κs → Res (offer.ended).signature κs → AtExit offer.ended κs → (w : World) → Pr w
-ensured κs given answer left w = (offer.clauses w.𝓛 w.𝓜.mem w.𝓡.run κs given).ensures tt answer left
+ensured κs given answer left w = (offer.clauses w.𝓛 w.𝓜.mem w.𝓡.returns κs given).ensures tt answer left
 
 abbrev reading : (κs : Lfts (offer.ended).signature.lifetimes) (given : Args (offer.ended).signature κs) (answer : Res (offer.ended).signature κs) (left : AtExit offer.ended κs)
     → Read (λ w. emp w.𝓤) no_know (ensured κs given answer left)
