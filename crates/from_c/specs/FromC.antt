@@ -157,8 +157,8 @@ pub record FromC : Type 0 where
       let p = plan_of header.now in
       (answer ≡ p.number) × (block ≡ p.block) × (version ≡ p.version) × (size ≡ p.size) × (records ≡ p.records) × (count ≡ p.words) × (bytes ≡ p.bytes))
   pub write : Every rahmisve_write.ended rahmisve_write_reads.Learnt (λ _ (header, (words, (room, _))) answer (_, (_, (block, (bytes, _)))).
-      let w = written_of header.now (words .now) (length room.now) in
-      (answer ≡ w.number) × (block ≡ room_written header.now (words .now) room.now) × (bytes ≡ w.bytes))
+      let w = written_of header.now words.now (length room.now) in
+      (answer ≡ w.number) × (block ≡ room_written header.now words.now room.now) × (bytes ≡ w.bytes))
   -- detector records
   pub part : Every rahmisve_record.ended rahmisve_record_reads.Learnt (λ _ (header, (count, (k, _))) answer (_, (_, (_, (start, (long, _))))).
       let p = part_of header.now k count in
@@ -168,15 +168,15 @@ pub record FromC : Type 0 where
       (answer ≡ p.number) × (channel ≡ p.channel) × (detector ≡ p.detector))
   -- longitudinal parity, a mark for each section in their order
   pub imager : Every rahmisve_parity_imager.ended rahmisve_parity_imager_reads.Learnt (λ _ (words, _) answer (_, (holds, _)).
-      let j = sections_of ImagerSpacelook (words .now) in
+      let j = sections_of ImagerSpacelook words.now in
       (answer ≡ j.number)
       × (holds ≡ mark (get_or j.holds 0 false) ∷ mark (get_or j.holds 1 false) ∷ mark (get_or j.holds 2 false) ∷ mark (get_or j.holds 3 false) ∷ []))
   pub sounder : Every rahmisve_parity_sounder.ended rahmisve_parity_sounder_reads.Learnt (λ _ (words, _) answer (_, (holds, _)).
-      let j = sections_of SounderSpacelook (words .now) in
+      let j = sections_of SounderSpacelook words.now in
       (answer ≡ j.number) × (holds ≡ mark (get_or j.holds 0 false) ∷ mark (get_or j.holds 1 false) ∷ []))
   -- time tags, with the leap days; elapsed from the first to the second
   pub read_tag_is : Every rahmisve_read_tag.ended rahmisve_read_tag_reads.Learnt (λ _ (tag, (leaps, _)) answer (_, (_, (numbers, _))).
-      (answer ≡ (read_tag leaps.now (tag .now)).number) × (numbers ≡ time (read_tag leaps.now (tag .now)).tag))
+      (answer ≡ (read_tag leaps.now tag.now).number) × (numbers ≡ time (read_tag leaps.now tag.now).tag))
   pub write_tag_is : Every rahmisve_write_tag.ended rahmisve_write_tag_reads.Learnt (λ _ (numbers, (leaps, _)) answer (_, (_, (tag, _))).
       let w = write_tag leaps.now (time_at 0 numbers.now) in
       (answer ≡ w.number) × (tag ≡ w.bytes))
@@ -185,12 +185,12 @@ pub record FromC : Type 0 where
   -- the Sounder's status: the word that 22 names, how many are suspect, channel and detector of the first, both counts, the frame fields; then
   -- for each tag its answer and its time
   pub sounder_status : Every rahmisve_sounder_status.ended rahmisve_sounder_status_reads.Learnt (λ _ (words, (leaps, _)) answer (_, (_, (numbers, (tags, _)))).
-      let s = status_of leaps.now (words .now) in
+      let s = status_of leaps.now words.now in
       (answer ≡ s.number)
       × (numbers ≡ s.word ∷ s.suspects ∷ channel s.first ∷ detector s.first ∷ s.raw ∷ s.blocks ∷ s.frame)
       × (tags ≡ map (λ t. t.number ∷ time t.tag) s.tags))
   pub sounder_suspect : Every rahmisve_sounder_suspect.ended rahmisve_sounder_suspect_reads.Learnt (λ _ (words, (leaps, (c, (d, _)))) answer (_, (_, (_, (_, (word, (suspect, _)))))).
-      let a = asked_of leaps.now (words .now) c d in
+      let a = asked_of leaps.now words.now c d in
       (answer ≡ a.number) × (word ≡ a.word) × (suspect ≡ mark a.suspect))
   -- the scan watch: a limit above 3,600,000 ms is 16, and the watch is as it was
   pub begin : Every rahmisve_watch_begin.ended rahmisve_watch_begin_reads.Learnt (λ _ (limit, (row, _)) answer (_, (begun, _)).
@@ -198,7 +198,7 @@ pub record FromC : Type 0 where
       × (3600000 < limit → (answer ≡ 16) × (begun ≡ row.now)))
   -- refused (0), and as a stray (1), it is as it was; the set and its count are what a closing hands over, else 0
   pub offer : Every rahmisve_watch_offer.ended rahmisve_watch_offer_reads.Learnt (λ _ (row, (block, (valid, (tag, (leaps, _))))) answer (after, (_, (_, (_, (_, (verdict, (fill, (count, _)))))))).
-      let s = step_of leaps.now (watch_at row.now) block valid (tag .now) in
+      let s = step_of leaps.now (watch_at row.now) block valid tag.now in
       (answer ≡ number_of s.verdict) × (verdict ≡ code s.verdict) × (fill ≡ fill_of s.verdict) × (count ≡ count_of s.verdict)
       × (verdict ≤ 1 → after ≡ row.now) × (2 ≤ verdict → after ≡ watch s.next))
   -- recordings: what stands from a byte on
@@ -233,12 +233,12 @@ pub record FromC : Type 0 where
   pub check : Every rahmisve_check_word.ended rahmisve_check_word_reads.Learnt (λ _ (message, _) answer _. answer ≡ check_word message.now)
   -- 6: a size outside 1 to 16. 8: the field has fewer bits. 9: less room
   pub take : Every rahmisve_take_words.ended rahmisve_take_words_reads.Learnt (λ _ (field, (size, (count, (room, _)))) answer (_, (_, (_, (words, _)))).
-      FirstOf (6 if ((size < 1) ⊎ (16 < size)) ∷ 8 if (length (field .now) * 8 < count * size) ∷ 9 if (length room.now < count) ∷ []) answer
-      × (answer ≡ 0 → words ≡ words_of size count (field .now) ++ drop count room.now) × ((answer ≡ 0 → ⊥) → words ≡ room.now))
+      FirstOf (6 if ((size < 1) ⊎ (16 < size)) ∷ 8 if (length field.now * 8 < count * size) ∷ 9 if (length room.now < count) ∷ []) answer
+      × (answer ≡ 0 → words ≡ words_of size count field.now ++ drop count room.now) × ((answer ≡ 0 → ⊥) → words ≡ room.now))
   -- 9: the field has fewer bits. 14: a word too large
   pub put : Every rahmisve_put_words.ended rahmisve_put_words_reads.Learnt (λ _ (words, (size, (field, _))) answer (_, (_, (filled, _))).
-      FirstOf (6 if ((size < 1) ⊎ (16 < size)) ∷ 9 if (length (field .now) * 8 < length (words .now) * size) ∷ 14 if (Below (2 ^ size) (words .now) → ⊥) ∷ []) answer
-      × (answer ≡ 0 → filled ≡ field_of size (length (field .now)) (words .now)) × ((answer ≡ 0 → ⊥) → filled ≡ field .now))
+      FirstOf (6 if ((size < 1) ⊎ (16 < size)) ∷ 9 if (length field.now * 8 < length words.now * size) ∷ 14 if (Below (2 ^ size) words.now → ⊥) ∷ []) answer
+      × (answer ≡ 0 → filled ≡ field_of size (length field.now) words.now) × ((answer ≡ 0 → ⊥) → filled ≡ field.now))
 
 -- Rows of the table, and others, whose numbers all differ, through C.
 pub record RowsFromC : Type 0 where
@@ -256,7 +256,7 @@ pub record RowsFromC : Type 0 where
   pub no_place : Every rahmisve_place.ended rahmisve_place_reads.Learnt (λ _ (block, _) answer left. block ≡ 256 → (answer ≡ 4) × (left ≡ (tt, (tt, (tt, (0, (0, tt)))))))
   -- tag 19 87 A3 42 14 35 67 89 is 1987 day 234, 21:43:56.789, flywheel on
   pub read_tag_is : Every rahmisve_read_tag.ended rahmisve_read_tag_reads.Learnt (λ _ (tag, (leaps, _)) answer left.
-      tag .now ≡ 0x19 ∷ 0x87 ∷ 0xA3 ∷ 0x42 ∷ 0x14 ∷ 0x35 ∷ 0x67 ∷ 0x89 ∷ [] → leaps.now ≡ []
+      tag.now ≡ 0x19 ∷ 0x87 ∷ 0xA3 ∷ 0x42 ∷ 0x14 ∷ 0x35 ∷ 0x67 ∷ 0x89 ∷ [] → leaps.now ≡ []
       → (answer ≡ 0) × (left ≡ (tt, (tt, (1987 ∷ 234 ∷ 21 ∷ 43 ∷ 56 ∷ 789 ∷ 1 ∷ [], tt)))))
   -- row 9: 1 ms later
   pub row9 : Every rahmisve_elapsed.ended rahmisve_elapsed_reads.Learnt (λ _ (from, (to, (leaps, _))) answer left.
@@ -268,25 +268,25 @@ pub record RowsFromC : Type 0 where
       → (answer ≡ 0) × (left ≡ (tt, (tt, (tt, (pos 2000, tt))))))
   -- the Sounder has no channel 257, which is not channel 1
   pub no_channel : Every rahmisve_sounder_suspect.ended rahmisve_sounder_suspect_reads.Learnt (λ _ (words, (leaps, (c, _))) answer left.
-      (status_of leaps.now (words .now)).number ≡ 0 → c ≡ 257 → (answer ≡ 13) × (left ≡ (tt, (tt, (tt, (tt, (0, (0, tt))))))))
+      (status_of leaps.now words.now).number ≡ 0 → c ≡ 257 → (answer ≡ 13) × (left ≡ (tt, (tt, (tt, (tt, (0, (0, tt))))))))
   -- block 3 comes to an open watch that expects it, 2,123 ms after the last tag, with the mark off, and is fill as block 0 was
   pub kept : Every rahmisve_watch_offer.ended rahmisve_watch_offer_reads.Learnt (λ _ (row, (block, (valid, (tag, (leaps, _))))) answer left.
-      row.now ≡ 1 ∷ 3 ∷ 1987 ∷ 234 ∷ 21 ∷ 43 ∷ 56 ∷ 789 ∷ 1 ∷ 5000 ∷ 1 ∷ [] → block ≡ 3 → valid ≡ 2 → tag .now ≡ 0x19 ∷ 0x87 ∷ 0x23 ∷ 0x42 ∷ 0x14 ∷ 0x35 ∷ 0x89 ∷ 0x12 ∷ []
+      row.now ≡ 1 ∷ 3 ∷ 1987 ∷ 234 ∷ 21 ∷ 43 ∷ 56 ∷ 789 ∷ 1 ∷ 5000 ∷ 1 ∷ [] → block ≡ 3 → valid ≡ 2 → tag.now ≡ 0x19 ∷ 0x87 ∷ 0x23 ∷ 0x42 ∷ 0x14 ∷ 0x35 ∷ 0x89 ∷ 0x12 ∷ []
       → leaps.now ≡ []
       → (answer ≡ 0) × (left ≡ (1 ∷ 4 ∷ 1987 ∷ 234 ∷ 21 ∷ 43 ∷ 58 ∷ 912 ∷ 0 ∷ 5000 ∷ 9 ∷ [], (tt, (tt, (tt, (tt, (3, (0, (0, tt))))))))))
   -- block 10 completes a scan whose blocks 2 and 5 were fill, and is fill too: 4 + 32 + 1,024
   pub complete : Every rahmisve_watch_offer.ended rahmisve_watch_offer_reads.Learnt (λ _ (row, (block, (valid, (tag, (leaps, _))))) answer left.
-      row.now ≡ 1 ∷ 10 ∷ 1987 ∷ 234 ∷ 21 ∷ 43 ∷ 56 ∷ 789 ∷ 1 ∷ 5000 ∷ 36 ∷ [] → block ≡ 10 → valid ≡ 0 → tag .now ≡ 0x19 ∷ 0x87 ∷ 0x23 ∷ 0x42 ∷ 0x14 ∷ 0x35 ∷ 0x89 ∷ 0x12 ∷ []
+      row.now ≡ 1 ∷ 10 ∷ 1987 ∷ 234 ∷ 21 ∷ 43 ∷ 56 ∷ 789 ∷ 1 ∷ 5000 ∷ 36 ∷ [] → block ≡ 10 → valid ≡ 0 → tag.now ≡ 0x19 ∷ 0x87 ∷ 0x23 ∷ 0x42 ∷ 0x14 ∷ 0x35 ∷ 0x89 ∷ 0x12 ∷ []
       → leaps.now ≡ []
       → (answer ≡ 0) × (left ≡ (0 ∷ 0 ∷ 0 ∷ 0 ∷ 0 ∷ 0 ∷ 0 ∷ 0 ∷ 0 ∷ 5000 ∷ 0 ∷ [], (tt, (tt, (tt, (tt, (7, (1060, (3, tt))))))))))
   -- block 0 breaks a scan of which block 1 was fill, and is fill itself: 2 is handed over, and the set of the new scan is 1
   pub anew : Every rahmisve_watch_offer.ended rahmisve_watch_offer_reads.Learnt (λ _ (row, (block, (valid, (tag, (leaps, _))))) answer left.
-      row.now ≡ 1 ∷ 2 ∷ 1987 ∷ 234 ∷ 21 ∷ 43 ∷ 56 ∷ 789 ∷ 1 ∷ 5000 ∷ 2 ∷ [] → block ≡ 0 → valid ≡ 255 → tag .now ≡ 0x19 ∷ 0x87 ∷ 0x23 ∷ 0x42 ∷ 0x14 ∷ 0x35 ∷ 0x89 ∷ 0x12 ∷ []
+      row.now ≡ 1 ∷ 2 ∷ 1987 ∷ 234 ∷ 21 ∷ 43 ∷ 56 ∷ 789 ∷ 1 ∷ 5000 ∷ 2 ∷ [] → block ≡ 0 → valid ≡ 255 → tag.now ≡ 0x19 ∷ 0x87 ∷ 0x23 ∷ 0x42 ∷ 0x14 ∷ 0x35 ∷ 0x89 ∷ 0x12 ∷ []
       → leaps.now ≡ []
       → (answer ≡ 0) × (left ≡ (1 ∷ 1 ∷ 1987 ∷ 234 ∷ 21 ∷ 43 ∷ 58 ∷ 912 ∷ 0 ∷ 5000 ∷ 1 ∷ [], (tt, (tt, (tt, (tt, (6, (2, (1, tt))))))))))
   -- row 7, in a room of five
   pub row7 : Every rahmisve_take_words.ended rahmisve_take_words_reads.Learnt (λ _ (field, (size, (count, (room, _)))) answer left.
-      field .now ≡ 0x00 ∷ 0x40 ∷ 0x20 ∷ 0x0C ∷ 0x04 ∷ [] → size ≡ 10 → count ≡ 4 → room.now ≡ 9 ∷ 8 ∷ 7 ∷ 6 ∷ 5 ∷ []
+      field.now ≡ 0x00 ∷ 0x40 ∷ 0x20 ∷ 0x0C ∷ 0x04 ∷ [] → size ≡ 10 → count ≡ 4 → room.now ≡ 9 ∷ 8 ∷ 7 ∷ 6 ∷ 5 ∷ []
       → (answer ≡ 0) × (left ≡ (tt, (tt, (tt, (1 ∷ 2 ∷ 3 ∷ 4 ∷ 5 ∷ [], tt))))))
   -- a field of tag 1 whose length 01 02 is 258; with a byte fewer it is cut
   pub field : Every rahmisve_next_field.ended rahmisve_next_field_reads.Learnt (λ _ (recording, (at, _)) answer left.
