@@ -88,22 +88,22 @@ words_read_is input (pieces.span s n ∷ ps) scratch = words_read_is input ps sc
 
 module _ (input recording report scratch : List ℕ) (bytes : Below 256 input)
     (z : (salvaged_of input (length recording) (length report) (length scratch)).number ≡ 0) where
-  abbrev ps : List Piece
-  ps = pieces_of input
+  abbrev laid_out : List Piece
+  laid_out = pieces_of input
 
   gives_canonical : Gives input recording report scratch (to_founds input (pieces_of input))
   gives_canonical =
       record {
         answer =
             done_answer input (length recording) (length report) (length scratch) z
-            ∙ (λ i. record { number = 0; bytes = length (sym (recorded_is input ps) i); entries = sym (found_count input ps) i; blocks = sym (block_count input ps) i });
+            ∙ (λ i. record { number = 0; bytes = length (sym (recorded_is input laid_out) i); entries = sym (found_count input laid_out) i; blocks = sym (block_count input laid_out) i });
         written =
             done_recording input recording (length report) (length scratch) z
-            ∙ ap (λ (l : List ℕ). l ++ drop (length l) recording) (sym (recorded_is input ps));
-        numbers = report_of input ps;
-        reported = reports input bytes ps (searched input bytes).right;
+            ∙ ap (λ (l : List ℕ). l ++ drop (length l) recording) (sym (recorded_is input laid_out));
+        numbers = report_of input laid_out;
+        reported = reports input bytes laid_out (searched input bytes).right;
         noted = done_report input (length recording) report (length scratch) z;
-        words = done_words input (length recording) (length report) scratch z ∙ words_read_is input ps scratch;
+        words = done_words input (length recording) (length report) scratch z ∙ words_read_is input laid_out scratch;
       }
 
 module _ (input : List ℕ) (m r w : ℕ) (bytes : Below 256 input) where
