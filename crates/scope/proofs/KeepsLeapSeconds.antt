@@ -1,7 +1,7 @@
 -- The statements on leap seconds are kept, as one; and a watch completes a scan over a leap second: each of its tags is good and comes a second
 -- after the one before it.
 -- Assumes nothing.
-use Prim.Native.Nat.{ℕ, zero, suc, ◌≤◌, ◌<◌}
+use Prim.Native.Nat.{ℕ, zero, suc, ◌<◌}
 use mathlib.Core.Path.{◌≡◌, refl, sym, subst}
 use mathlib.Core.Bool.{true}
 use mathlib.Core.List.{List, [], ◌∷◌}

@@ -13,7 +13,6 @@ use lib.ListN.{length, get_or}
 use Rattle.ground.proofs.LawsGrounds.{reads_number}
 use Rattle.ground.specs.Grounds.{◌when◌}
 use Rattle.check_rule.proofs.LawsXor.{xor_assoc}
-use Rattle.parity.specs.Sections as Parity
 use Rattle.parity.specs.Sections.{xor_of, sections_in, verdicts_on, judged_as, refused_by, sections_of}
 use Rattle.parity.specs.Words.{any_large, ground_of}
 use Rattle.parity.specs.declared.Layout.{Layout}

@@ -29,7 +29,7 @@ use Rattle.salvaging.proofs.KeepsRuins.{restores, again_same}
 use Rattle.report.proofs.KeepsReport.{prints_report, prints_kinds, prints_changed}
 use Rattle.scope.specs.Notions.{FirstOf}
 use Rattle.scope.specs.Demands.{Accepted, Received}
-use Rattle.scope.specs.Salvage.{copy_from, Makes, Found, block, span, Search, recorded, blocks_in, Changed, Report, end, of_block, of_span, read_all, salvage_reasons, Gives, lying_on, Among, NoneOver, as_fields, back_to_back, Each, Stands, OfFinds, Salvage}
+use Rattle.scope.specs.Salvage.{copy_from, Makes, Found, block, Search, recorded, blocks_in, Changed, Report, end, of_block, of_span, read_all, salvage_reasons, Gives, lying_on, Among, NoneOver, as_fields, back_to_back, Each, Stands, OfFinds, Salvage}
 use Rattle.scope.proofs.KeepsDemands.{equal_copies, receives, reads, altering}
 use Rattle.scope.proofs.LawsFound.{copy_is, makes_block, block_makes, as_found, to_founds, below, n_is, makes_it, canonical, one_search}
 

@@ -1,37 +1,33 @@
 -- The scope's statements on the Sounder's status are kept: each test tells its reason, and what is promised of the status bits is so of the
 -- detectors that are asked for.
 -- Assumes nothing.
-use Prim.Native.Nat.{ℕ, suc, ◌+◌, ◌*◌, ◌≤◌, ◌<◌, suc-le-suc}
+use Prim.Native.Nat.{ℕ, suc, ◌≤◌, ◌<◌, suc-le-suc}
 use mathlib.Core.Path.{◌≡◌, refl, sym, ap, ◌∙◌, subst}
-use mathlib.Core.Logic.{◌⊎◌, inl, inr, ⊎_elim, ◌↔◌}
+use mathlib.Core.Logic.{◌⊎◌, inl, inr, ⊎_elim}
 use mathlib.Core.Bool.{Bool, true, false, not, ◌||◌}
-use mathlib.Core.List.{List, [], ◌∷◌, ◌++◌}
+use mathlib.Core.List.{List, [], ◌∷◌}
 use native.Mathlib.Nat.{le_of_suc-le-suc, lt_of_not-le}
 use native.Mathlib.Omega.{arith}
 use lib.Dec.{eqb, ltb}
-use lib.ListN.{length, get_or, take, drop}
+use lib.ListN.{length, get_or}
 use borrow.Author.Tests.{eqb-true, eqb-false, not-true, not-false}
 use Rattle.ground.specs.Choice.{pick}
-use Rattle.parity.specs.Words.{any_large}
-use Rattle.calendar.specs.Leaps.{good_list}
 use Rattle.detectors.specs.Status.{spare_zero, channel_of, detector_of, suspects_of}
 use Rattle.detectors.specs.Promises as Detectors
 use Rattle.detectors.specs.Promises.{Inside, sum_to}
 use Rattle.detectors.specs.declared.First.{First}
-use Rattle.detectors.specs.declared.First.TheVariants.{Nobody}
 use Rattle.detectors.proofs.KeepsDetectors as Kept
 use Rattle.sounder.specs.Frame.{frame_of, first_out}
 use Rattle.sounder.specs.Judging.{status_of, asked_of}
-use Rattle.sounder.specs.Promises.{status, Out, Lowest, NoneOut, Plain, SpareZero}
+use Rattle.sounder.specs.Promises.{status, Out, NoneOut, Plain, SpareZero}
 use Rattle.sounder.specs.declared.Asked.{Asked}
 use Rattle.sounder.proofs.LawsWords.{part_long}
 use Rattle.sounder.proofs.KeepsFrame.{framing}
 use Rattle.sounder.proofs.KeepsSounder.{judging, asking, asked_suspect, asked_no_word, ten_words}
 use Rattle.calendar.proofs.KeepsLists.{is_list}
-use Rattle.scope.specs.Notions.{Reason, ◌if◌, FirstOf}
-use Rattle.scope.specs.LeapSeconds.{LeapDays}
-use Rattle.scope.specs.Sounder.{status_bit, reasons, asked_reasons, Refusing, NoneSuspect, FirstSuspect, Suspects, Status}
-use Rattle.scope.proofs.LawsReasons.{Tells, told_as, tells_eq, tells_not, tells_true, tells_less, tells_either, decided, behind}
+use Rattle.scope.specs.Notions.{◌if◌, FirstOf}
+use Rattle.scope.specs.Sounder.{status_bit, reasons, asked_reasons, NoneSuspect, FirstSuspect, Suspects, Status}
+use Rattle.scope.proofs.LawsReasons.{Tells, tells_eq, tells_not, tells_less, tells_either, decided, behind}
 use Rattle.scope.proofs.LawsGrounds.{fill_bit}
 use Rattle.scope.proofs.KeepsParity.{tells_large}
 use Rattle.scope.proofs.KeepsLeapTags.{to_days, tells_list}
