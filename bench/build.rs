@@ -8,12 +8,11 @@ fn main() {
     let cc = env::var("CC").unwrap_or("cc".into());
     let out = PathBuf::from(env::var_os("OUT_DIR").unwrap());
     println!("cargo::rerun-if-env-changed=CC");
-    for header in ["baseline.h", "rows.h", "sounder.h", "spacelook.h", "tags.h"] {
+    for header in ["baseline.h", "rows.h", "sounder.h", "tags.h"] {
         println!("cargo::rerun-if-changed={header}");
     }
-    let subjects = ["", "_tags", "_sounder", "_spacelook"];
-    for name in subjects.iter().flat_map(|subject| ["plain", "good"].map(|way| format!("{way}{subject}"))) {
-        let (source, object) = (format!("{name}.c"), out.join(&name).with_extension("o"));
+    for name in ["plain", "good", "plain_tags", "good_tags", "plain_sounder", "good_sounder"] {
+        let (source, object) = (format!("{name}.c"), out.join(name).with_extension("o"));
         let flags = ["-std=c11", "-O3", "-fPIC", "-Wall", "-Wextra", "-Wconversion", "-Werror", "-c"];
         let done = Command::new(&cc).args(flags).arg(&source).arg("-o").arg(&object).status();
         if !done.is_ok_and(|status| status.success()) {
@@ -22,5 +21,4 @@ fn main() {
         println!("cargo::rerun-if-changed={source}");
         println!("cargo::rustc-link-arg={}", object.display());
     }
-    println!("cargo::rustc-link-lib=m"); // ldexp of plain C
 }

@@ -1,5 +1,5 @@
-/* rahmisve.h: GVAR blocks, recordings and salvage of them, CDA time tags, the numbers of spacelook blocks, the Sounder's status and the
- * scan watch, from C. This file is the manual.
+/* rahmisve.h: GVAR blocks, recordings and salvage of them, CDA time tags, the Sounder's status and the scan watch, from C. This file is
+ * the manual.
  *
  * The archive librahmisve.a holds proved code: for every input whatever, a function below answers what its definition says, reads and
  * writes nothing outside the buffers lent to it, and returns. docs/LINKING.md says how to make the archive, how to link it and what it
@@ -8,19 +8,18 @@
  * VERSION. RAHMISVE_VERSION is the version of this file, rahmisve_version() that of the archive. Every change of a signature, a size or a
  * place raises it, every new or changed number of an answer, a verdict or a find, and every change of what a block's row allows or its
  * records hold: 2 gave block 2 its fourth record in version 3 of the format, 3 brought answer 18, 4 the leap days and answer 19, 5 the
- * watch's set of fill blocks and answer 20, 6 the Sounder's status and answers 21 and 22, 7 floating numbers. Where
- * `rahmisve_version() != RAHMISVE_VERSION` the program was built with the header of another archive, and nothing else below may be called.
+ * watch's set of fill blocks and answer 20, 6 the Sounder's status and answers 21 and 22. Where `rahmisve_version() != RAHMISVE_VERSION`
+ * the program was built with the header of another archive, and nothing else below may be called.
  *
  * ANSWERS. A function returns its answer: 0, which is accepted, or the number of a refusal, each named once in the list below. Of several
- * grounds the first one decides, in the order that stands with the function. Four functions refuse nothing and return something else:
- * rahmisve_version a version, rahmisve_next_field what it found, rahmisve_check_word a check word, rahmisve_read_floating a reading. Mind
- * the zeros: answer 0 is accepted, but verdict 0 of a watch is a refused offer, found 0 is the end of a recording, and reading 0 is zero.
+ * grounds the first one decides, in the order that stands with the function. Three functions refuse nothing and return something else:
+ * rahmisve_version a version, rahmisve_next_field what it found, rahmisve_check_word a check word. Mind the zeros: answer 0 is accepted,
+ * but verdict 0 of a watch is a refused offer, and found 0 is the end of a recording.
  *
  * PLACES AND ROOMS. What else belongs to an answer goes to the places that the caller lends for it: `header`, `word_count`, `start` and
  * the like. A place is written on every call, on a refusal with zeros; only `seq` of rahmisve_line has its number then too, and the word
- * that answer 22 speaks of is named. A room, which is a `room`, the `field` that rahmisve_put_words fills, the `numbers` and `readings` of
- * a whole spacelook block, or the `recording`, `report` and `scratch` of rahmisve_salvage, is written only by an accepted call; a refusal
- * leaves it, and a watch, as it was, to the bit.
+ * that answer 22 speaks of is named. A room, which is a `room`, the `field` that rahmisve_put_words fills, or the `recording`, `report` and
+ * `scratch` of rahmisve_salvage, is written only by an accepted call; a refusal leaves it, and a watch, as it was, to the bit.
  *
  * MEMORY. Everything lent belongs to the caller, before and after. The library keeps no pointer, allocates nothing, keeps nothing
  * between calls, has no variables of its own, does no input or output and does not touch errno. So calls may be made from several
@@ -29,8 +28,8 @@
  * POINTERS. A buffer is a pointer and, behind it, how many elements it has: `block`, `block_length`. Nothing else is read or written.
  * Where the length is 0 the pointer is not followed, and may be NULL. The caller sees to four things, which nothing can check:
  *   - A pointer leads to as many elements as its length says, or as its declaration below says.
- *   - A buffer of bytes may stand at any address. One of uint16_t, uint32_t or double, and a place or row of uint32_t, uint64_t, int64_t,
- *     size_t or double, is aligned as the C compiler aligns that type; storage declared or allocated as such is.
+ *   - A buffer of bytes may stand at any address. One of uint16_t or uint32_t, and a place or row of uint32_t, uint64_t, int64_t or size_t,
+ *     is aligned as the C compiler aligns that type; storage declared or allocated as such is.
  *   - A place for an answer is always written, so it may not be NULL, not even where the call is refused. Neither may a watch or a time.
  *   - What a call writes may not overlap anything else that is lent to it. What it only reads may overlap: rahmisve_elapsed may be
  *     given one tag twice.
@@ -52,7 +51,7 @@ extern "C" {
 
 /* ---- Version -------------------------------------------------------------------------------------------------------------------- */
 
-#define RAHMISVE_VERSION 7
+#define RAHMISVE_VERSION 6
 
 /* The version of the archive that is linked. */
 uint32_t rahmisve_version(void);
@@ -80,7 +79,7 @@ uint32_t rahmisve_version(void);
     ANSWER(CHECK_DISAGREES, 10, "the check word is not that of the field") \
     ANSWER(FILL_NOT_ZERO, 11, "a bit behind the last word is 1") \
     ANSWER(BAD_TAG, 12, "a bad time tag") /* one not of eight bytes too; an open watch whose last tag is bad */ \
-    ANSWER(NO_RECORD, 13, "no such record, detector, number or expected block") /* an open watch that expects no block 1 to 10 */ \
+    ANSWER(NO_RECORD, 13, "no such record, detector or expected block") /* an open watch that expects no block 1 to 10 */ \
     ANSWER(LARGE_WORD, 14, "a word too large for its size") \
     ANSWER(OTHER_FIELD, 15, "a field of a recording with another tag than 1") \
     ANSWER(LONG_LIMIT, 16, "a waiting limit above 3,600,000 ms") \
@@ -163,59 +162,6 @@ uint8_t rahmisve_parity_imager(const uint16_t *words, size_t words_length, uint8
 
 /* The same for block 1 of the Sounder spacelook set, which has two sections. */
 uint8_t rahmisve_parity_sounder(const uint16_t *words, size_t words_length, uint8_t holds[RAHMISVE_SOUNDER_MARKS]);
-
-/* ---- Floating numbers ----------------------------------------------------------------------------------------------------------- */
-
-/* A reading of four bytes is one of three. It is told by its case, and by a double beside it, which is 0 but for a number. */
-#define RAHMISVE_READING_ZERO 0       /* zero: the word 0, and no other */
-#define RAHMISVE_READING_NUMBER 1     /* a number, never 0; the double is equal to it, not rounded */
-#define RAHMISVE_READING_NOT_NORMAL 2 /* a fraction whose first hexadecimal digit is 0, in a word that is not 0: no number is given */
-
-/* Reads a floating number of the format: to base 16, a sign bit, seven bits of exponent and 24 of fraction; in a negative one all 32 bits
- * are complemented. `word` has the first of the four bytes as its highest: 41 10 00 00 is 0x41100000, and 1.
- * It refuses nothing, and returns the reading. */
-uint8_t rahmisve_read_floating(uint32_t word, double *number);
-
-#define RAHMISVE_SPACELOOK_WORDS 8040          /* words of such a block, each of eight bits */
-#define RAHMISVE_SPACELOOK_IMAGER_FIELDS 26    /* arrays of numbers in block 1 of the Imager spacelook set, from 1 */
-#define RAHMISVE_SPACELOOK_IMAGER_NUMBERS 1828 /* and the numbers in them all */
-#define RAHMISVE_SPACELOOK_SOUNDER_FIELDS 6    /* the same of the Sounder's */
-#define RAHMISVE_SPACELOOK_SOUNDER_NUMBERS 448
-
-/* Reads one number of block 1 of the Imager spacelook set: that of a field, from 1, and an index, from 0. It comes as a block 11 with words
- * of eight bits; which block 11 is one, the host finds out, since the SAD ID is not read here. Accepted, `reading` is its case and `number`
- * the double; on a refusal both are 0, which is the case of zero too, so look at the answer first. The fields in the order of their words,
- * with the name in Table 3-22, how many numbers each has, and where the first of these stands when all are read:
- *
- *      1 UMNDOH  15    0      8 FMNODD  15   89     15 IDPRM3 120  388     22 IDPOM3 120 1228
- *      2 FMNDOH  15   15      9 USDODD  15  104     16 IDPRM4 120  508     23 IDPOM4 120 1348
- *      3 USDDOH  15   30     10 FSCODD  15  119     17 IDPRM5 120  628     24 IDPOM5 120 1468
- *      4 FSCDOH  15   45     11 FSRODD   7  134     18 IDPRM6 120  748     25 IDPOM6 120 1588
- *      5 FSRDOH   7   60     12 FSTODD   7  141     19 IDPRM7 120  868     26 IDPOM7 120 1708
- *      6 FSTDH    7   67     13 IDPRM1 120  148     20 IDPOM1 120  988
- *      7 UMNODD  15   74     14 IDPRM2 120  268     21 IDPOM2 120 1108
- *
- * Refusals: 8 where there are not RAHMISVE_SPACELOOK_WORDS words, 14 for a word above 255, wherever it stands, 13 for a field or an index
- * that is not there. */
-uint8_t rahmisve_spacelook_imager(const uint16_t *words, size_t words_length, uint32_t field, uint32_t index, uint8_t *reading,
-                                  double *number);
-
-/* The same of block 1 of the Sounder spacelook set, Table 3-26 of the revision of 2011:
- *
- *      1 UFMEV   76    0      3 UFSDV   76  152      5 FSRV    72  304
- *      2 FMEV    76   76      4 FSDV    76  228      6 FSTV    72  376
- */
-uint8_t rahmisve_spacelook_sounder(const uint16_t *words, size_t words_length, uint32_t field, uint32_t index, uint8_t *reading,
-                                   double *number);
-
-/* Reads all numbers of such a block in one pass: field by field the doubles to the front of `numbers`, their cases to the front of
- * `readings`; `count` is how many. Rooms of RAHMISVE_SPACELOOK_IMAGER_NUMBERS and RAHMISVE_SPACELOOK_SOUNDER_NUMBERS are enough; they may
- * be longer, and nothing behind the numbers has changed.
- * Refusals: 8 and 14 as above, 9 where one of the rooms is too small. */
-uint8_t rahmisve_spacelook_imager_all(const uint16_t *words, size_t words_length, double *numbers, size_t numbers_length,
-                                      uint8_t *readings, size_t readings_length, size_t *count);
-uint8_t rahmisve_spacelook_sounder_all(const uint16_t *words, size_t words_length, double *numbers, size_t numbers_length,
-                                       uint8_t *readings, size_t readings_length, size_t *count);
 
 /* ---- Time tags ------------------------------------------------------------------------------------------------------------------ */
 

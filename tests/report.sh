@@ -26,14 +26,6 @@ block() {
         on { print }
         found && $0 == fence { on = (++seen == n) }' "$page"
 }
-# spacelook_fields imager | sounder: the fields of its block as the C manual has them, a line each: number, name, how many numbers, and where
-# the first of these stands among all
-spacelook_fields() {
-    awk -v of="rahmisve_spacelook_$1(" '
-        /^ \*      / { rows = rows $0 "\n" }
-        index($0, of) { print rows }
-        /^uint8_t / { rows = "" }' include/rahmisve.h | grep -oE '[0-9]+ [A-Z]+[0-9]* +[0-9]+ +[0-9]+' | tr -s ' ' | sort -n
-}
 # independent PROGRAM DIR SEED COUNT: has a program that shares no code with the library make files there
 independent() {
     local program=$1

@@ -1,17 +1,14 @@
 //! The ways that are timed beside each other: plain C, good C and idiomatic Rust, each with the five functions of
 //! baseline.h, and the library in the same form; the search for blocks of plain C and of the library; and all four with
-//! time tags and the scan watch, with the Sounder's status, and with the numbers of spacelook blocks.
+//! time tags and the scan watch, and with the Sounder's status.
 
 pub mod agree_sounder;
-pub mod agree_spacelook;
 pub mod agree_tags;
 pub mod idiomatic;
 pub mod idiomatic_sounder;
-pub mod idiomatic_spacelook;
 pub mod idiomatic_tags;
 pub mod search;
 pub mod sounder;
-pub mod spacelook;
 pub mod tags;
 
 use idiomatic::c::*;

@@ -3,14 +3,12 @@
 use std::collections::BTreeMap;
 use std::fmt::Write;
 
-use crate::floating;
 use crate::inputs::{self, Dice};
 use crate::library::{
-    FieldAnswer, Library, LineAnswer, Model, OfferAnswer, ReadAnswer, SalvageAnswer, StatusAnswer, SuspectAnswer, Told,
+    FieldAnswer, Library, LineAnswer, Model, OfferAnswer, ReadAnswer, SalvageAnswer, StatusAnswer, SuspectAnswer,
 };
 use crate::rows;
 use crate::salvage::{changed_text, ENTRY_NUMBERS, SPAN};
-use crate::spacelook::Set;
 use crate::tags::Tag;
 use crate::watch::Watch;
 
@@ -45,9 +43,6 @@ pub enum Case {
     Offers { start: Start, offers: Vec<Offer> },
     Imager { words: Vec<u16> },
     Sounder { words: Vec<u16> },
-    Floating { word: u32 },
-    Number { set: Set, words: Vec<u16>, field: u32, index: u32, shift: usize },
-    Numbers { set: Set, words: Vec<u16>, doubles: Vec<f64>, cases: Vec<u8>, shift: usize },
     Status { words: Vec<u16>, leap_days: Vec<u32>, shift: usize },
     Suspect { words: Vec<u16>, leap_days: Vec<u32>, channel: u32, detector: u32, shift: usize },
     NextField { recording: Vec<u8>, at: usize, shift: usize },
@@ -73,10 +68,6 @@ pub enum Answer {
     Offers(u8, Vec<(OfferAnswer, Watch)>),
     Imager(u8, [bool; 4]),
     Sounder(u8, [bool; 2]),
-    Told(Told),
-    Number(u8, Told),
-    /// With how many they are, and the cases of so many.
-    Numbers(u8, usize, Vec<u8>),
     Status(Box<StatusAnswer>),
     Suspect(SuspectAnswer),
     Field(FieldAnswer),
@@ -95,8 +86,6 @@ pub struct Outcome {
     pub words: Vec<(&'static str, Lent<u16>)>,
     pub leap_days: Vec<(&'static str, Lent<u32>)>,
     pub numbers: Vec<(&'static str, Lent<usize>)>,
-    /// Doubles by their bits.
-    pub doubles: Vec<(&'static str, Lent<u64>)>,
 }
 
 const AROUND: usize = 24;
@@ -126,13 +115,6 @@ impl<T: Copy> Lent<T> {
     }
 }
 
-impl Lent<f64> {
-    fn bits(&self) -> Lent<u64> {
-        let space = self.space.iter().map(|double| double.to_bits()).collect();
-        Lent { space, front: self.front, length: self.length }
-    }
-}
-
 pub(crate) fn lend_bytes(content: &[u8], shift: usize) -> Lent<u8> {
     Lent::new(content, shift, 0xA5)
 }
@@ -150,16 +132,11 @@ fn lend_numbers(content: &[usize], shift: usize) -> Lent<usize> {
     Lent::new(content, shift, 0xA5C3_A5C3)
 }
 
-fn lend_doubles(content: &[f64], shift: usize) -> Lent<f64> {
-    Lent::new(content, shift, f64::from_bits(0xA5C3_A5C3_A5C3_A5C3))
-}
-
 pub fn run(library: &dyn Library, case: &Case) -> Outcome {
     let mut bytes = Vec::new();
     let mut words = Vec::new();
     let mut lists = Vec::new();
     let mut numbers = Vec::new();
-    let mut doubles = Vec::new();
     let answer = match case {
         Case::CheckWord { bytes: lent } => {
             let lent = lend_bytes(lent, 0);
@@ -253,24 +230,6 @@ pub fn run(library: &dyn Library, case: &Case) -> Outcome {
             words.push(("words", lent));
             Answer::Sounder(number, right)
         }
-        Case::Floating { word } => Answer::Told(library.read_floating(*word)),
-        Case::Number { set, words: lent, field, index, shift } => {
-            let lent = lend_words(lent, *shift);
-            let (number, told) = library.spacelook(*set, lent.get(), *field, *index);
-            words.push(("words", lent));
-            Answer::Number(number, told)
-        }
-        Case::Numbers { set, words: lent, doubles: room, cases, shift } => {
-            let lent = lend_words(lent, *shift);
-            let mut room = lend_doubles(room, *shift);
-            let mut cases = lend_bytes(cases, *shift);
-            let (number, count) = library.spacelook_all(*set, lent.get(), room.get_mut(), cases.get_mut());
-            let told = cases.get().iter().copied().take(count).collect();
-            words.push(("words", lent));
-            doubles.push(("doubles", room.bits()));
-            bytes.push(("cases", cases));
-            Answer::Numbers(number, count, told)
-        }
         Case::Status { words: lent, leap_days, shift } => {
             let lent = lend_words(lent, *shift);
             let leap_days = lend_leap_days(leap_days);
@@ -340,7 +299,7 @@ pub fn run(library: &dyn Library, case: &Case) -> Outcome {
             Answer::Listing(listing)
         }
     };
-    Outcome { answer, bytes, words, leap_days: lists, numbers, doubles }
+    Outcome { answer, bytes, words, leap_days: lists, numbers }
 }
 
 pub(crate) fn hex(bytes: &[u8]) -> String {
@@ -367,11 +326,6 @@ impl Case {
             Case::Offers { .. } => "offer",
             Case::Imager { .. } => "imager",
             Case::Sounder { .. } => "sounder",
-            Case::Floating { .. } => "floating",
-            Case::Number { set: Set::Imager, .. } => "spacelook imager",
-            Case::Number { set: Set::Sounder, .. } => "spacelook sounder",
-            Case::Numbers { set: Set::Imager, .. } => "spacelook imager, all",
-            Case::Numbers { set: Set::Sounder, .. } => "spacelook sounder, all",
             Case::Status { .. } => "status",
             Case::Suspect { .. } => "suspect",
             Case::NextField { .. } => "next field",
@@ -425,15 +379,6 @@ impl Case {
             Case::Imager { words } | Case::Sounder { words } => {
                 writeln!(text, "  words, {}: {}", words.len(), hex_words(words)).unwrap();
             }
-            Case::Number { words, field, index, shift, .. } => {
-                writeln!(text, "  words, {}: {}", words.len(), hex_words(words)).unwrap();
-                writeln!(text, "  field {field}, index {index}, shift: {shift}").unwrap();
-            }
-            Case::Numbers { words, doubles, cases, shift, .. } => {
-                writeln!(text, "  words, {}: {}", words.len(), hex_words(words)).unwrap();
-                writeln!(text, "  rooms: {} doubles, {} cases, shift: {shift}", doubles.len(), cases.len()).unwrap();
-            }
-            Case::Floating { word } => writeln!(text, "  word: {word:08X}").unwrap(),
             Case::Status { words, leap_days, shift } => {
                 writeln!(text, "  words, {}: {}", words.len(), hex_words(words)).unwrap();
                 writeln!(text, "  leap days: {leap_days:?}, shift: {shift}").unwrap();
@@ -480,16 +425,6 @@ fn refusal_label(number: u8, word: u32) -> String {
     }
 }
 
-/// What a case is counted as.
-pub fn case_label(case: u8) -> String {
-    match case {
-        floating::ZERO => "zero".into(),
-        floating::NUMBER => "number".into(),
-        floating::NOT_NORMAL => "not normal".into(),
-        _ => format!("case {case}"),
-    }
-}
-
 /// Names under which answers are counted.
 fn labels(answer: &Answer) -> Vec<String> {
     match answer {
@@ -510,10 +445,6 @@ fn labels(answer: &Answer) -> Vec<String> {
             vec!["0".into(), if *suspect { "suspect".into() } else { "not suspect".into() }]
         }
         Answer::Suspect(answer) => vec![refusal_label(answer.number, answer.word)],
-        Answer::Told(told) => vec![case_label(told.case)],
-        Answer::Number(0, told) => vec!["0".into(), case_label(told.case)],
-        Answer::Number(number, _) => vec![number.to_string()],
-        Answer::Numbers(number, ..) => vec![number.to_string()],
         Answer::Listing(text) => {
             let lines: Vec<&str> = text.lines().skip(1).collect();
             lines
@@ -578,9 +509,6 @@ pub fn difference(library: &dyn Library, case: &Case, ours: &Outcome) -> Option<
     for ((name, ours), (_, theirs)) in ours.numbers.iter().zip(&theirs.numbers) {
         text += &first_difference(name, ours, theirs);
     }
-    for ((name, ours), (_, theirs)) in ours.doubles.iter().zip(&theirs.doubles) {
-        text += &first_difference(name, ours, theirs);
-    }
     Some(text)
 }
 
@@ -602,18 +530,6 @@ impl Tally {
     pub fn count(&mut self, kind: &'static str, answer: &Answer) {
         for label in labels(answer) {
             *self.0.entry((kind, label)).or_default() += 1;
-        }
-        if let Answer::Numbers(_, _, cases) = answer {
-            self.count_cases(kind, cases);
-        }
-    }
-
-    /// The cases of many numbers, each as often as it is there.
-    fn count_cases(&mut self, kind: &'static str, cases: &[u8]) {
-        let mut times = [0; 256];
-        cases.iter().for_each(|case| times[usize::from(*case)] += 1);
-        for (case, times) in (0..=u8::MAX).zip(times).filter(|(_, times)| *times > 0) {
-            *self.0.entry((kind, case_label(case))).or_default() += times;
         }
     }
 

@@ -1,13 +1,12 @@
 //! The numbered table, the further run cases, block 2 by version, the listing's
 //! example, the salvage's, leap seconds, which blocks were fill and the errors
-//! trainees bring, with the answers that the specification prints; floating
-//! numbers and the Sounder's status have files of their own. Nothing here asks
-//! the model, so it is checked like any library.
+//! trainees bring, with the answers that the specification prints; the Sounder's
+//! status has a file of its own. Nothing here asks the model, so it is checked
+//! like any library.
 
 use std::fmt::Debug;
 
 use crate::check::check_word;
-use crate::document_spacelook;
 use crate::document_status;
 use crate::inputs::{digits, field};
 use crate::library::{Library, OfferAnswer, SalvageAnswer};
@@ -774,7 +773,6 @@ pub fn all(library: &dyn Library) -> Findings {
     salvage(library, &mut found);
     leap_seconds(library, &mut found);
     fill_blocks(library, &mut found);
-    document_spacelook::spacelook(library, &mut found);
     document_status::status(library, &mut found);
     trainee_errors(library, &mut found);
     found

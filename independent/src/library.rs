@@ -2,10 +2,9 @@
 //! the one written here; another is compared with it through the same trait.
 
 use crate::rows::LARGEST_C;
-use crate::spacelook::Set;
 use crate::tags::Tag;
 use crate::watch::{Verdict, Watch};
-use crate::{block, check, floating, parity, placement, recording, salvage, spacelook, status, tags, watch, words};
+use crate::{block, check, parity, placement, recording, salvage, status, tags, watch, words};
 
 #[derive(Clone, Debug, PartialEq, Eq)]
 pub struct ReadAnswer {
@@ -131,22 +130,6 @@ impl SuspectAnswer {
     }
 }
 
-/// A reading as it is told: the number of its case, and a double beside it.
-#[derive(Clone, Copy, Debug, Default)]
-pub struct Told {
-    pub case: u8,
-    pub double: f64,
-}
-
-/// Two doubles are the same where their bits are, so that -0 is not 0.
-impl PartialEq for Told {
-    fn eq(&self, other: &Told) -> bool {
-        (self.case, self.double.to_bits()) == (other.case, other.double.to_bits())
-    }
-}
-
-impl Eq for Told {}
-
 pub trait Library {
     fn check_word(&self, bytes: &[u8]) -> u16;
     fn take_words(&self, field: &[u8], size: u32, count: usize, room: &mut [u16]) -> u8;
@@ -167,11 +150,6 @@ pub trait Library {
     fn offer(&self, watch: &mut Watch, block: u8, valid: u32, tag: &[u8], leap_days: &[u32]) -> OfferAnswer;
     fn imager(&self, words: &[u16]) -> (u8, [bool; 4]);
     fn sounder(&self, words: &[u16]) -> (u8, [bool; 2]);
-    fn read_floating(&self, word: u32) -> Told;
-    /// Number, and the reading of a field, from 1, and an index, from 0.
-    fn spacelook(&self, set: Set, words: &[u16], field: u32, index: u32) -> (u8, Told);
-    /// Number, and how many were read to the front of the two rooms.
-    fn spacelook_all(&self, set: Set, words: &[u16], doubles: &mut [f64], cases: &mut [u8]) -> (u8, usize);
     fn sounder_status(&self, words: &[u16], leap_days: &[u32]) -> StatusAnswer;
     fn sounder_suspect(&self, words: &[u16], leap_days: &[u32], channel: u32, detector: u32) -> SuspectAnswer;
     fn next_field(&self, recording: &[u8], at: usize) -> FieldAnswer;
@@ -257,15 +235,6 @@ impl Library for Model {
     }
     fn sounder(&self, words: &[u16]) -> (u8, [bool; 2]) {
         parity::sounder(words)
-    }
-    fn read_floating(&self, word: u32) -> Told {
-        floating::read(word).told()
-    }
-    fn spacelook(&self, set: Set, words: &[u16], field: u32, index: u32) -> (u8, Told) {
-        spacelook::one(set, words, field, index)
-    }
-    fn spacelook_all(&self, set: Set, words: &[u16], doubles: &mut [f64], cases: &mut [u8]) -> (u8, usize) {
-        spacelook::all(set, words, doubles, cases)
     }
     fn sounder_status(&self, words: &[u16], leap_days: &[u32]) -> StatusAnswer {
         status::status(words, leap_days)

@@ -1,7 +1,6 @@
 //! compare SEED COUNT [FAULT]: the model against the library, or, with a fault (a number from 1), against one that is
 //! wrong on purpose. One salvage is compared for every twenty cases; for every five, one case with leap days, one with
-//! fill blocks, one of spacelook numbers and one of the Sounder's status. Exit status 1 on a difference, 2 on bad
-//! arguments.
+//! fill blocks and one of the Sounder's status. Exit status 1 on a difference, 2 on bad arguments.
 
 use std::process::ExitCode;
 
@@ -9,7 +8,6 @@ use independent::compare::{compare, compare_headers, compare_placements, Tally};
 use independent::compare_fills::compare_fills;
 use independent::compare_leaps::compare_leaps;
 use independent::compare_salvages::compare_salvages;
-use independent::compare_spacelook::compare_spacelooks;
 use independent::compare_status::compare_statuses;
 use independent::compare_words::compare_words;
 use independent::document;
@@ -17,10 +15,8 @@ use independent::library::Library;
 use independent::real::Real;
 use independent::wrong::{Wrong, FAULTS};
 use independent::wrong_fills::FILL_FAULTS;
-use independent::wrong_floating::FLOATING_FAULTS;
 use independent::wrong_leaps::LEAP_FAULTS;
 use independent::wrong_salvage::SALVAGE_FAULTS;
-use independent::wrong_spacelook::SPACELOOK_FAULTS;
 use independent::wrong_status::STATUS_FAULTS;
 
 fn usage() -> ExitCode {
@@ -28,11 +24,10 @@ fn usage() -> ExitCode {
     ExitCode::from(2)
 }
 
-/// Every fault: those of a salvage behind the others, then those in leap days, in fill blocks, in the Sounder's status,
-/// in floating numbers and in spacelook blocks.
+/// Every fault: those of a salvage behind the others, then those in leap days, in fill blocks and in the Sounder's
+/// status.
 fn faults() -> impl Iterator<Item = &'static str> {
-    let before = FAULTS.into_iter().chain(SALVAGE_FAULTS).chain(LEAP_FAULTS).chain(FILL_FAULTS).chain(STATUS_FAULTS);
-    before.chain(FLOATING_FAULTS).chain(SPACELOOK_FAULTS)
+    FAULTS.into_iter().chain(SALVAGE_FAULTS).chain(LEAP_FAULTS).chain(FILL_FAULTS).chain(STATUS_FAULTS)
 }
 
 /// The fault of a number from 1.
@@ -45,12 +40,11 @@ fn compare_counted(library: &dyn Library, seed: u64, count: u64, tally: &mut Tal
     compare(library, seed, 0, count, tally)?;
     let leaps = compare_leaps(library, seed, count / 5, tally)?;
     let (fills, closings) = compare_fills(library, seed, count / 5, tally)?;
-    let spacelooks = compare_spacelooks(library, seed, count / 5, tally)?;
     let statuses = compare_statuses(library, seed, count / 5, tally)?;
     let salvages = compare_salvages(library, seed, count / 20, tally)?;
     Ok(format!(
         "{count} cases of seed {seed}, {leaps} with leap days, {fills} with fill blocks, {closings} closings, \
-         {spacelooks} of spacelook numbers, {statuses} of the Sounder's status, {salvages} salvages"
+         {statuses} of the Sounder's status, {salvages} salvages"
     ))
 }
 

@@ -3,11 +3,11 @@
 pub const WORDS: usize = 8_040;
 
 /// First word, last word and parity word, all counted from 1.
-pub type Section = (usize, usize, usize);
+type Section = (usize, usize, usize);
 
 /// Words 7903 to 7905 belong to no section.
-pub const IMAGER: [Section; 4] = [(1, 221, 222), (223, 701, 702), (703, 1181, 1182), (1183, 7902, 7906)];
-pub const SOUNDER: [Section; 2] = [(1, 221, 222), (223, 2926, 2927)];
+const IMAGER: [Section; 4] = [(1, 221, 222), (223, 701, 702), (703, 1181, 1182), (1183, 7902, 7906)];
+const SOUNDER: [Section; 2] = [(1, 221, 222), (223, 2926, 2927)];
 
 /// Refusal 8 for another number of words, then 14 for a word of more than eight bits.
 pub fn eight_bit_words(words: &[u16]) -> Result<(), u8> {
@@ -24,23 +24,14 @@ fn verdicts<const N: usize>(sections: &[Section; N], words: &[u16]) -> (u8, [boo
     if let Err(number) = eight_bit_words(words) {
         return (number, [false; N]);
     }
-    let right = sections.map(|section| sum(words, section) == words[section.2 - 1]);
+    let right = sections.map(|(first, last, parity)| {
+        let mut sum = 0;
+        for number in first..=last {
+            sum ^= words[number - 1];
+        }
+        sum == words[parity - 1]
+    });
     (0, right)
-}
-
-fn sum(words: &[u16], (first, last, _): Section) -> u16 {
-    let mut sum = 0;
-    for number in first..=last {
-        sum ^= words[number - 1];
-    }
-    sum
-}
-
-/// Makes the parity of each section right.
-pub fn put_parity(words: &mut [u16], sections: &[Section]) {
-    for section in sections {
-        words[section.2 - 1] = sum(words, *section);
-    }
 }
 
 pub fn imager(words: &[u16]) -> (u8, [bool; 4]) {

@@ -5,9 +5,8 @@ use rahmisve_sys::*;
 use crate::inputs::LARGEST_K;
 use crate::library::{
     list_by_lines, FieldAnswer, Found, Library, LineAnswer, OfferAnswer, ReadAnswer, SalvageAnswer, StatusAnswer,
-    SuspectAnswer, Told,
+    SuspectAnswer,
 };
-use crate::spacelook::Set;
 use crate::tags::Tag;
 use crate::watch::{Verdict, Watch};
 
@@ -77,26 +76,12 @@ fn verdict_of(verdict: u8, number: u8) -> Verdict {
 /// More than any number of a status can be.
 const JUNK: u32 = 0x5A5A_5A5A;
 
-/// No case, and a double of more bits than a number has.
-fn junk_reading() -> Told {
-    Told { case: 0x5A, double: f64::from_bits(0x5A5A_5A5A_5A5A_5A5A) }
-}
-
-/// No leap days and no words are lent as null, the way a caller in C has it.
-fn place_of<T>(lent: &[T]) -> *const T {
-    if lent.is_empty() {
+/// No leap days are lent as null, the way a caller in C has it.
+fn place_of(leap_days: &[u32]) -> *const u32 {
+    if leap_days.is_empty() {
         std::ptr::null()
     } else {
-        lent.as_ptr()
-    }
-}
-
-/// So is no room.
-fn room_of<T>(room: &mut [T]) -> *mut T {
-    if room.is_empty() {
-        std::ptr::null_mut()
-    } else {
-        room.as_mut_ptr()
+        leap_days.as_ptr()
     }
 }
 
@@ -220,31 +205,6 @@ impl Library for Real {
         let mut holds = [0x5A; 2];
         let number = unsafe { rahmisve_parity_sounder(words.as_ptr(), words.len(), &mut holds) };
         (number, holds.map(|section| section != 0))
-    }
-    fn read_floating(&self, word: u32) -> Told {
-        let mut told = junk_reading();
-        told.case = unsafe { rahmisve_read_floating(word, &mut told.double) };
-        told
-    }
-    fn spacelook(&self, set: Set, words: &[u16], field: u32, index: u32) -> (u8, Told) {
-        let mut told = junk_reading();
-        let read = match set {
-            Set::Imager => rahmisve_spacelook_imager,
-            Set::Sounder => rahmisve_spacelook_sounder,
-        };
-        let number = unsafe { read(place_of(words), words.len(), field, index, &mut told.case, &mut told.double) };
-        (number, told)
-    }
-    fn spacelook_all(&self, set: Set, words: &[u16], doubles: &mut [f64], cases: &mut [u8]) -> (u8, usize) {
-        let mut count = 0x5A5A;
-        let read = match set {
-            Set::Imager => rahmisve_spacelook_imager_all,
-            Set::Sounder => rahmisve_spacelook_sounder_all,
-        };
-        let number = unsafe {
-            read(place_of(words), words.len(), room_of(doubles), doubles.len(), room_of(cases), cases.len(), &mut count)
-        };
-        (number, count)
     }
     fn sounder_status(&self, words: &[u16], leap_days: &[u32]) -> StatusAnswer {
         let (mut status, mut tags) = ([JUNK; 13], [[JUNK; 8]; 15]);

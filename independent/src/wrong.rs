@@ -4,13 +4,11 @@
 use crate::check::check_bytes;
 use crate::header::{meaning, passing, sealed, HEADER};
 use crate::library::{
-    FieldAnswer, Found, Library, LineAnswer, Model, OfferAnswer, ReadAnswer, SalvageAnswer, StatusAnswer,
-    SuspectAnswer, Told,
+    FieldAnswer, Found, Library, LineAnswer, Model, OfferAnswer, ReadAnswer, SalvageAnswer, StatusAnswer, SuspectAnswer,
 };
-use crate::spacelook::Set;
 use crate::tags::{self, Tag};
 use crate::watch::{Verdict, Watch};
-use crate::{rows, words, wrong_fills, wrong_floating, wrong_leaps, wrong_salvage, wrong_spacelook, wrong_status};
+use crate::{rows, words, wrong_fills, wrong_leaps, wrong_salvage, wrong_status};
 
 pub const FAULTS: [&str; 80] = [
     "takes copy 1 unread",
@@ -544,18 +542,6 @@ impl Library for Wrong {
 
     fn sounder(&self, words: &[u16]) -> (u8, [bool; 2]) {
         Model.sounder(words)
-    }
-
-    fn read_floating(&self, word: u32) -> Told {
-        wrong_floating::read(self.0, word)
-    }
-
-    fn spacelook(&self, set: Set, words: &[u16], field: u32, index: u32) -> (u8, Told) {
-        wrong_spacelook::one(self.0, set, words, field, index)
-    }
-
-    fn spacelook_all(&self, set: Set, words: &[u16], doubles: &mut [f64], cases: &mut [u8]) -> (u8, usize) {
-        wrong_spacelook::all(self.0, set, words, doubles, cases)
     }
 
     fn sounder_status(&self, words: &[u16], leap_days: &[u32]) -> StatusAnswer {

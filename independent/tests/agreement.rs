@@ -8,7 +8,6 @@ use independent::compare::{case_of, compare, compare_placements, difference, run
 use independent::compare_fills::compare_fills;
 use independent::compare_leaps::compare_leaps;
 use independent::compare_salvages::{compare_named, compare_salvages, compare_tapes, rooms_around, salvage_of};
-use independent::compare_spacelook::compare_spacelooks;
 use independent::compare_status::compare_statuses;
 use independent::compare_words::{
     compare_counts, compare_drawn, compare_large_words, compare_long_fields, compare_words,
@@ -83,7 +82,6 @@ fn without_a_fault_none_is_found() {
     compare_salvages(&library, 1, 200, &mut Tally::default()).unwrap();
     compare_leaps(&library, 1, 5_000, &mut Tally::default()).unwrap();
     compare_fills(&library, 1, 5_000, &mut Tally::default()).unwrap();
-    compare_spacelooks(&library, 1, 5_000, &mut Tally::default()).unwrap();
     compare_statuses(&library, 1, 5_000, &mut Tally::default()).unwrap();
     assert!(document::all(&library).wrong.is_empty());
 }

@@ -11,8 +11,10 @@ use independent::library::{Library, Model, StatusAnswer, SuspectAnswer};
 use independent::sounder_blocks::{detector_of, good_block, put_tag, WORDS};
 use independent::status::{bits, detectors, number, tag_bytes, BITS, EAST, FRAME, TAGS, WEST};
 use independent::tags::leap_days;
-use independent::wrong::Wrong;
+use independent::wrong::{Wrong, FAULTS};
+use independent::wrong_fills::FILL_FAULTS;
 use independent::wrong_leaps::LEAP_FAULTS;
+use independent::wrong_salvage::SALVAGE_FAULTS;
 use independent::wrong_status::STATUS_FAULTS;
 
 const DRAWN: u64 = 5_000;
@@ -85,6 +87,14 @@ fn every_bound_is_one_off() {
     });
     let off: BTreeSet<String> = off.collect();
     assert_eq!(named, off.iter().map(String::as_str).collect());
+}
+
+/// A name stands for one fault.
+#[test]
+fn no_name_is_taken_twice() {
+    let all = FAULTS.into_iter().chain(SALVAGE_FAULTS).chain(LEAP_FAULTS).chain(FILL_FAULTS).chain(STATUS_FAULTS);
+    let mut met = BTreeSet::new();
+    assert_eq!(all.filter(|fault| !met.insert(*fault)).collect::<Vec<_>>(), Vec::<&str>::new());
 }
 
 const KINDS: [&str; 2] = ["status", "suspect"];

@@ -1,6 +1,6 @@
-//! GVAR blocks, CDA time tags, the numbers of spacelook blocks, the Sounder's status, recordings, salvage and the scan
-//! watch, over the proved archive `librahmisve.a`. The archive's manual is include/rahmisve.h. Here a refusal is an `Err`
-//! with a [`Refusal`], and a lent room is as it was after one.
+//! GVAR blocks, CDA time tags, the Sounder's status, recordings, salvage and the scan watch, over the proved archive
+//! `librahmisve.a`. The archive's manual is include/rahmisve.h. Here a refusal is an `Err` with a [`Refusal`], and a lent
+//! room is as it was after one.
 //!
 //! Nothing is allocated and nothing is kept between calls, so that everything may be called from any thread.
 //!
@@ -40,7 +40,6 @@ mod recording;
 mod refusal;
 mod salvage;
 mod sounder;
-mod spacelook;
 mod time;
 mod version;
 mod watch;
@@ -54,10 +53,6 @@ pub use recording::{first_text, last_text, line, line_text, next_field, Field, F
 pub use refusal::{Refusal, Unlisted};
 pub use salvage::{salvage, salvage_bytes, salvage_entries, Entry, Piece, Pieces, Salvaged};
 pub use sounder::{sounder_status, sounder_suspect, Detector, SounderFrame, SounderRefusal, SounderStatus, SounderTag};
-pub use spacelook::{
-    read_floating, spacelook_imager, spacelook_imager_all, spacelook_sounder, spacelook_sounder_all, Reading, Readings,
-    Spacelook, SpacelookField, IMAGER_FIELDS, SOUNDER_FIELDS,
-};
 pub use time::{elapsed, read_tag, write_tag, Time};
 pub use version::{check_version, version, OtherVersion, VERSION};
 pub use watch::{Fill, Verdict, Watch};
@@ -87,16 +82,6 @@ pub const PARITY_WORDS: usize = 8_040;
 pub const IMAGER_MARKS: usize = 4;
 /// The same for the Sounder spacelook set.
 pub const SOUNDER_MARKS: usize = 2;
-/// Words of block 1 of a spacelook set.
-pub const SPACELOOK_WORDS: usize = 8_040;
-/// Fields with numbers in block 1 of the Imager spacelook set, from 1.
-pub const SPACELOOK_IMAGER_FIELDS: u32 = 26;
-/// The numbers in them all.
-pub const SPACELOOK_IMAGER_NUMBERS: usize = 1_828;
-/// Fields with numbers in block 1 of the Sounder spacelook set, from 1.
-pub const SPACELOOK_SOUNDER_FIELDS: u32 = 6;
-/// The numbers in them all.
-pub const SPACELOOK_SOUNDER_NUMBERS: usize = 448;
 /// Words of a Sounder documentation block.
 pub const SOUNDER_WORDS: usize = 8_040;
 /// Channels of the Sounder, from 1.

@@ -89,7 +89,7 @@ refusals! {
     /// One not of eight bytes too, and an open watch whose last tag is bad.
     BadTag, 12, "a bad time tag";
     /// An open watch that expects none of the blocks 1 to 10.
-    NoRecord, 13, "no such record, detector, number or expected block";
+    NoRecord, 13, "no such record, detector or expected block";
     LargeWord, 14, "a word too large for its size";
     OtherField, 15, "a field of a recording with another tag than 1";
     LongLimit, 16, "a waiting limit above 3,600,000 ms";

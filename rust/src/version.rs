@@ -5,7 +5,7 @@ use core::fmt;
 use rahmisve_sys::rahmisve_version;
 
 /// The version of the archives that this crate is for.
-pub const VERSION: u32 = 7;
+pub const VERSION: u32 = 6;
 
 /// The version of the archive that this program is linked with.
 ///

@@ -1,11 +1,9 @@
 /* edges: words out of fields and into fields that end where the memory ends, or begin where it begins, and the words do so too; then what
- * salvage is lent, in the same places, leap days with the tags and the watch that they are lent with, the words and the places of the
- * Sounder's status, and the words, the places and the rooms of spacelook numbers. No byte is read or written beyond, or the program ends by
- * a fault. Prints a line `ok - ..` or `not ok - ..` for each size of a word and each way, for each kind of input, for the lists, for the
- * status and for the numbers.
- * edges taken | put | words | front | input | recording | entries | scratch | days | numbers | block | counts | verdicts | look | amounts |
- * kinds: a call that is lent a byte, a word, an entry, a day, a number of a watch or a status, a double or a reading more than there is,
- * and therefore has to end by a fault. */
+ * salvage is lent, in the same places, leap days with the tags and the watch that they are lent with, and the words and the places of the
+ * Sounder's status. No byte is read or written beyond, or the program ends by a fault. Prints a line `ok - ..` or `not ok - ..` for each
+ * size of a word and each way, for each kind of input, for the lists and for the status.
+ * edges taken | put | words | front | input | recording | entries | scratch | days | numbers | block | counts | verdicts: a call that is
+ * lent a byte, a word, an entry, a day or a number of a watch or a status more than there is, and therefore has to end by a fault. */
 #define _DEFAULT_SOURCE
 #include <stdio.h>
 #include <string.h>
@@ -354,100 +352,12 @@ static void all_of_status(void)
     all_good &= good;
 }
 
-/* ---- the numbers of spacelook blocks */
-
-/* How much of the block and of its two rooms lies behind its memory: nothing, but where a fault is asked for. */
-static struct {
-    size_t words, numbers, readings;
-} outside;
-
-/* The last number of a block of so many words, whose numbers are all the same. Block and places stand at an end of memory. */
-static int with_number(unsigned answer, int end, size_t count, int imager)
-{
-    uint16_t *words = words_at(end, count - outside.words);
-    double *number = part_of(fields, end, sizeof *number);
-    uint8_t *reading = part_of(lists, end, sizeof *reading);
-    int accepted = answer == RAHMISVE_ANSWER_ACCEPTED;
-    for (size_t i = 0; i < count - outside.words; i++)
-        words[i] = 0xBE;
-    if (rahmisve_read_floating(0xBEBEBEBE, number) != RAHMISVE_READING_NUMBER || *number != -0x414142p-20)
-        return 0;
-    memset(number, UNTOUCHED, sizeof *number);
-    *reading = UNTOUCHED;
-    unsigned got = imager ? rahmisve_spacelook_imager(words, count, RAHMISVE_SPACELOOK_IMAGER_FIELDS, 119, reading, number)
-                          : rahmisve_spacelook_sounder(words, count, RAHMISVE_SPACELOOK_SOUNDER_FIELDS, 71, reading, number);
-    return got == answer && *reading == (accepted ? RAHMISVE_READING_NUMBER : 0) && *number == (accepted ? -0x414142p-20 : 0);
-}
-
-/* All numbers of that block, to rooms for so many, which stand at an end of memory too. */
-static int with_numbers(unsigned answer, int end, size_t count, int imager, size_t doubles, size_t cases)
-{
-    size_t wanted = imager ? RAHMISVE_SPACELOOK_IMAGER_NUMBERS : RAHMISVE_SPACELOOK_SOUNDER_NUMBERS;
-    double *numbers = part_of(reports, end, (doubles - outside.numbers) * sizeof *numbers);
-    uint8_t *readings = part_of(recordings, end, cases - outside.readings);
-    size_t *read = part_of(fields, !end, sizeof *read);
-    int good = with_number(count == RAHMISVE_SPACELOOK_WORDS ? RAHMISVE_ANSWER_ACCEPTED : answer, end, count, imager);
-    memset(numbers, UNTOUCHED, (doubles - outside.numbers) * sizeof *numbers);
-    memset(readings, UNTOUCHED, cases - outside.readings);
-    const uint16_t *words = words_at(end, count - outside.words);
-    unsigned got = imager ? rahmisve_spacelook_imager_all(words, count, numbers, doubles, readings, cases, read)
-                          : rahmisve_spacelook_sounder_all(words, count, numbers, doubles, readings, cases, read);
-    good &= got == answer;
-    if (outside.numbers + outside.readings > 0)
-        return good; /* nothing here looks behind the memory either */
-    if (answer != RAHMISVE_ANSWER_ACCEPTED)
-        wanted = 0;
-    for (size_t i = 0; i < wanted; i++)
-        good &= numbers[i] == -0x414142p-20 && readings[i] == RAHMISVE_READING_NUMBER;
-    for (size_t i = wanted * sizeof *numbers; i < doubles * sizeof *numbers; i++)
-        good &= ((uint8_t *)numbers)[i] == UNTOUCHED;
-    for (size_t i = wanted; i < cases; i++)
-        good &= readings[i] == UNTOUCHED;
-    return good & (*read == wanted);
-}
-
-static void all_of_numbers(void)
-{
-    enum { WORDS = RAHMISVE_SPACELOOK_WORDS };
-    int good = 1;
-    for (int way = 0; way < 4; way++) {
-        int end = way / 2, imager = way % 2;
-        size_t n = imager ? RAHMISVE_SPACELOOK_IMAGER_NUMBERS : RAHMISVE_SPACELOOK_SOUNDER_NUMBERS;
-        for (size_t more = 0; more < 4; more++)
-            good &= with_numbers(RAHMISVE_ANSWER_ACCEPTED, end, WORDS, imager, n + more, n + 3 - more);
-        good &= with_numbers(RAHMISVE_ANSWER_SMALL_ROOM, end, WORDS, imager, n - 1, n);
-        good &= with_numbers(RAHMISVE_ANSWER_SMALL_ROOM, end, WORDS, imager, n, n - 1);
-        good &= with_numbers(RAHMISVE_ANSWER_SMALL_ROOM, end, WORDS, imager, 0, 0);
-        good &= with_numbers(RAHMISVE_ANSWER_WRONG_LENGTH, end, WORDS - 1, imager, n, n);
-        good &= with_numbers(RAHMISVE_ANSWER_WRONG_LENGTH, end, WORDS + 1, imager, n, n);
-    }
-    printf("%s - the numbers of spacelook blocks, where memory ends, and where it begins\n", good ? "ok" : "not ok");
-    all_good &= good;
-}
-
 /* ---- more than there is */
-
-static int status_lent_too_much(char what)
-{
-    behind.words = what == 'b';
-    behind.numbers = what == 'c';
-    behind.tags = what == 'v';
-    return with_status(RAHMISVE_ANSWER_ACCEPTED, 1, RAHMISVE_SOUNDER_WORDS, 0);
-}
-
-static int numbers_lent_too_much(char what)
-{
-    enum { NUMBERS = RAHMISVE_SPACELOOK_SOUNDER_NUMBERS };
-    outside.words = what == 'l';
-    outside.numbers = what == 'a';
-    outside.readings = what == 'k';
-    return with_numbers(RAHMISVE_ANSWER_ACCEPTED, 1, RAHMISVE_SPACELOOK_WORDS, 0, NUMBERS, NUMBERS);
-}
 
 /* Whether it went well, which it cannot: words for a byte that is behind the memory or in front of it, or one word more than there are; or
  * salvage with the last of what it uses, a byte, a number or a word, behind the memory; or a tag with the last of its leap days there; or a
  * watch of ten numbers, as version 4 had it; or the Sounder's status with the last word of its block behind the memory, or the last number
- * of a place; or all numbers of a spacelook block with its last word there, or the end of one of their rooms. */
+ * of a place. */
 static int lent_too_much(char what)
 {
     const uint16_t *words = words_at(1, 20);
@@ -477,13 +387,14 @@ static int lent_too_much(char what)
         numbers_beyond = 1;
         return with_days(RAHMISVE_ANSWER_ACCEPTED, 1, 3);
     case 'b':
+        behind.words = 1;
+        return with_status(RAHMISVE_ANSWER_ACCEPTED, 1, RAHMISVE_SOUNDER_WORDS, 0);
     case 'c':
+        behind.numbers = 1;
+        return with_status(RAHMISVE_ANSWER_ACCEPTED, 1, RAHMISVE_SOUNDER_WORDS, 0);
     case 'v':
-        return status_lent_too_much(what);
-    case 'l':
-    case 'a':
-    case 'k':
-        return numbers_lent_too_much(what);
+        behind.tags = 1;
+        return with_status(RAHMISVE_ANSWER_ACCEPTED, 1, RAHMISVE_SOUNDER_WORDS, 0);
     default:
         return rahmisve_put_words(words, 20, 10, bytes_at(0, 25) - 1, 25) == RAHMISVE_ANSWER_ACCEPTED;
     }
@@ -508,6 +419,5 @@ int main(int argc, char **argv)
     told_of_salvage(all_stopped(68) & all_stopped(RAHMISVE_MOST_WORDS), "blocks that stop");
     all_lists();
     all_of_status();
-    all_of_numbers();
     return !all_good;
 }

@@ -10,14 +10,12 @@ static uint8_t stack[65536] __attribute__((aligned(16)));
 static uint8_t header[RAHMISVE_HEADER_BYTES], common[RAHMISVE_HEADER_BYTES], copies[RAHMISVE_COPY_MARKS], block[RAHMISVE_MOST_BYTES];
 static uint8_t one[4], text[RAHMISVE_LINE_BYTES], holds[RAHMISVE_IMAGER_MARKS], tag[RAHMISVE_TAG_BYTES], field[RAHMISVE_MOST_BYTES];
 static uint8_t recording[RAHMISVE_SALVAGE_BYTES(sizeof block)];
-static uint8_t readings[RAHMISVE_SPACELOOK_IMAGER_NUMBERS];
-static uint16_t words[RAHMISVE_MOST_WORDS], documentation[RAHMISVE_SOUNDER_WORDS], look[RAHMISVE_SPACELOOK_WORDS];
+static uint16_t words[RAHMISVE_MOST_WORDS], documentation[RAHMISVE_SOUNDER_WORDS];
 static uint32_t time[RAHMISVE_TIME_NUMBERS], watch[RAHMISVE_WATCH_NUMBERS], days[RAHMISVE_MOST_LEAP_DAYS], fill[2];
 static uint32_t status[RAHMISVE_SOUNDER_NUMBERS], tags[RAHMISVE_SOUNDER_TAGS][RAHMISVE_SOUNDER_TAG_NUMBERS];
 static size_t bytes, count[3], report[RAHMISVE_SALVAGE_ENTRIES(sizeof block)][RAHMISVE_ENTRY_NUMBERS];
 static uint64_t seq;
 static int64_t ms;
-static double numbers[RAHMISVE_SPACELOOK_IMAGER_NUMBERS];
 
 /* Each answers 0. */
 static uint8_t version(void) { return rahmisve_version() != RAHMISVE_VERSION; }
@@ -28,25 +26,6 @@ static uint8_t record(void) { return rahmisve_record(header, sizeof header, 68, 
 static uint8_t place(void) { return rahmisve_place(1, 2, 3, one, one + 1); }
 static uint8_t parity_imager(void) { return rahmisve_parity_imager(words, RAHMISVE_PARITY_WORDS, holds); }
 static uint8_t parity_sounder(void) { return rahmisve_parity_sounder(words, RAHMISVE_PARITY_WORDS, holds); }
-static uint8_t read_floating(void) { return rahmisve_read_floating(0xBEF00000, numbers) != RAHMISVE_READING_NUMBER; }
-static uint8_t spacelook_imager(void)
-{
-    return rahmisve_spacelook_imager(look, RAHMISVE_SPACELOOK_WORDS, RAHMISVE_SPACELOOK_IMAGER_FIELDS, 119, readings, numbers);
-}
-static uint8_t spacelook_sounder(void)
-{
-    return rahmisve_spacelook_sounder(look, RAHMISVE_SPACELOOK_WORDS, RAHMISVE_SPACELOOK_SOUNDER_FIELDS, 71, readings, numbers);
-}
-static uint8_t spacelook_imager_all(void)
-{
-    return rahmisve_spacelook_imager_all(look, RAHMISVE_SPACELOOK_WORDS, numbers, RAHMISVE_SPACELOOK_IMAGER_NUMBERS, readings,
-                                         sizeof readings, count);
-}
-static uint8_t spacelook_sounder_all(void)
-{
-    return rahmisve_spacelook_sounder_all(look, RAHMISVE_SPACELOOK_WORDS, numbers, RAHMISVE_SPACELOOK_SOUNDER_NUMBERS, readings,
-                                          sizeof readings, count);
-}
 static uint8_t write_tag(void) { return rahmisve_write_tag(time, days, RAHMISVE_MOST_LEAP_DAYS, tag); }
 static uint8_t read_tag(void) { return rahmisve_read_tag(tag, sizeof tag, days, RAHMISVE_MOST_LEAP_DAYS, time); }
 static uint8_t elapsed(void) { return rahmisve_elapsed(tag, sizeof tag, tag, sizeof tag, days, RAHMISVE_MOST_LEAP_DAYS, &ms); }
@@ -79,12 +58,10 @@ static uint8_t put_words(void) { return rahmisve_put_words(words, 68, 10, field,
 
 #define CALL(name) {"rahmisve_" #name, name}
 static const struct { const char *name; uint8_t (*call)(void); } calls[] = {
-    CALL(version),           CALL(write),                CALL(read),                  CALL(plan),          CALL(record),
-    CALL(place),             CALL(parity_imager),        CALL(parity_sounder),        CALL(read_floating), CALL(spacelook_imager),
-    CALL(spacelook_sounder), CALL(spacelook_imager_all), CALL(spacelook_sounder_all), CALL(write_tag),     CALL(read_tag),
-    CALL(elapsed),           CALL(sounder_status),       CALL(sounder_suspect),       CALL(watch_begin),   CALL(watch_offer),
-    CALL(next_field),        CALL(line),                 CALL(first_text),            CALL(line_text),     CALL(last_text),
-    CALL(salvage),           CALL(check_word),           CALL(take_words),            CALL(put_words),
+    CALL(version),         CALL(write),          CALL(read),        CALL(plan),       CALL(record),     CALL(place),
+    CALL(parity_imager),   CALL(parity_sounder), CALL(write_tag),   CALL(read_tag),   CALL(elapsed),    CALL(sounder_status),
+    CALL(sounder_suspect), CALL(watch_begin),    CALL(watch_offer), CALL(next_field), CALL(line),       CALL(first_text),
+    CALL(line_text),       CALL(last_text),      CALL(salvage),     CALL(check_word), CALL(take_words), CALL(put_words),
 };
 
 /* How far down the paint is gone after a call on the painted stack. */
@@ -129,8 +106,6 @@ int main(void)
     time[RAHMISVE_TIME_MINUTE] = 59;
     time[RAHMISVE_TIME_SECOND] = 60;
     document();
-    for (size_t i = 0; i < RAHMISVE_SPACELOOK_WORDS; i++)
-        look[i] = 0xBE; /* each of its numbers is one, and negative */
     for (size_t i = 0; i < sizeof calls / sizeof *calls; i++) {
         /* once beforehand, so that what is bound on first use is bound; then with two paints, as a byte may have the colour of one */
         if (calls[i].call() != 0) {

@@ -1,10 +1,9 @@
 //! agree SEED COUNT: the three baselines against the model, with tags, leap days and fill blocks too, and against the
-//! library on Sounder documentation blocks and on spacelook blocks; and plain C's search for blocks against the
-//! library's.
+//! library on Sounder documentation blocks; and plain C's search for blocks against the library's.
 
 use bench::agree_tags::Compared;
 use bench::search::{Rooms, LIBRARY, PLAIN};
-use bench::{agree_sounder, agree_spacelook, tags, Way, BASELINES};
+use bench::{agree_sounder, tags, Way, BASELINES};
 use independent::compare::{case_of, Case};
 use independent::compare_fills::fill_case_of;
 use independent::compare_leaps::leap_case_of;
@@ -136,15 +135,6 @@ fn judging(seed: u64, count: u64) -> agree_sounder::Compared {
     compared
 }
 
-/// Spacelook blocks, good and bad, in rooms that may be too small.
-fn looking(seed: u64, count: u64) -> agree_spacelook::Compared {
-    let mut compared = agree_spacelook::Compared::default();
-    for number in 0..count {
-        compared.compare(&mut Dice::for_case(!seed, number));
-    }
-    compared
-}
-
 fn main() {
     let numbers: Vec<u64> = std::env::args().skip(1).filter_map(|text| text.parse().ok()).collect();
     let [seed, count] = numbers[..] else {
@@ -155,7 +145,6 @@ fn main() {
     let mut searches = [0; 3];
     let tagged = tagging(seed, count);
     let judged = judging(seed, count);
-    let looked = looking(seed, count / 4);
     for number in 0..count {
         let case = case_of(seed, number);
         let mut dice = Dice::for_case(!seed, number);
@@ -199,9 +188,8 @@ fn main() {
         "{} baselines agree with the model: {checks} check words, {reads} reads ({accepted} accepted), \
          {writes} writes, {packs} packings, {} calls on tags ({} with a bad list of leap days, {} with a bad set of fill \
          blocks, {} refused for something else, {} that close a scan with fill in it); with the library on {} Sounder \
-         documentation blocks ({} accepted, {} with a frame field out of range) and {} spacelook blocks ({} accepted, with {} \
-         numbers and {} that are not normal); and plain C's search with the library's: {searches} inputs ({salvaged} \
-         accepted, {blocks} blocks)",
+         documentation blocks ({} accepted, {} with a frame field out of range); and plain C's search with the library's: \
+         {searches} inputs ({salvaged} accepted, {blocks} blocks)",
         BASELINES.len(),
         tagged.calls,
         tagged.bad_list,
@@ -210,10 +198,6 @@ fn main() {
         tagged.closed_with_fill,
         judged.blocks,
         judged.accepted,
-        judged.out_of_range,
-        looked.blocks,
-        looked.accepted,
-        looked.numbers,
-        looked.not_normal
+        judged.out_of_range
     );
 }

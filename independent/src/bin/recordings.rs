@@ -10,12 +10,9 @@ use independent::block::write;
 use independent::check::check_bytes;
 use independent::document::header;
 use independent::inputs::{digits, field, recording, scanned, tag_at, Dice};
-use independent::parity::{put_parity, IMAGER, SOUNDER};
 use independent::recording::list;
 use independent::rows::{c_of_n, id_of_block, records, LARGEST_N};
 use independent::sounder_blocks::{put_frame, put_number, put_tag};
-use independent::spacelook::{place, Set};
-use independent::spacelook_blocks::put_word;
 use independent::tags::{LeapDays, Tag};
 
 /// A block of the narrowest scan.
@@ -144,30 +141,11 @@ fn sounder_words(west: u32, east: u32) -> Vec<u16> {
     words
 }
 
-/// The words of block 1 of a spacelook set, with these numbers by field and index, and zeros for the others.
-fn spacelook_words(set: Set, numbers: &[(u32, u32, u32)]) -> Vec<u16> {
-    let mut words = vec![0; 8_040];
-    // GOES-P, SPS 1, data identity, first of its series and not the last, block count 1.
-    (words[0], words[1]) = (15, 1);
-    (words[2], words[3], words[7]) = (if set == Set::Imager { 22 } else { 38 }, 63, 1);
-    for (field, index, word) in numbers {
-        put_word(&mut words, place(set, *field, *index).unwrap(), *word);
-    }
-    put_parity(&mut words, if set == Set::Imager { &IMAGER } else { &SOUNDER });
-    words
-}
-
-/// Field, index and word: numbers that 3.5.4 prints, and one that is not normal.
-const IMAGER_NUMBERS: [(u32, u32, u32); 5] =
-    [(2, 0, 0x4264_2A00), (2, 1, 0x4110_0000), (2, 2, 0xBEF0_0000), (2, 3, 0x8000_0000), (26, 119, 0x402A_0000)];
-const SOUNDER_NUMBERS: [(u32, u32, u32); 2] = [(1, 0, 0x4110_0000), (6, 71, 0xBFD6_0000)];
-
 /// What the program `sample` makes: a scan of a hundred pixels over midnight; blocks 11; block 3 hit in one copy, hit in
 /// its field, a byte short, under another tag, and short of a header; scans of one pixel that a watch with a limit of
 /// 5,000 ms closes as late, clock back and broken; a scan of one pixel over the leap second at the end of 2008; block 2
-/// of 84 words in versions 2 and 3; two Sounder documentation blocks, west and east exchanged in the second; block 1 of
-/// the Imager spacelook set and of the Sounder's, each with a few numbers and its parity right. Block 1 of the broken
-/// scan is fill, and blocks 2, 5 and 10 over the leap second are.
+/// of 84 words in versions 2 and 3; two Sounder documentation blocks, west and east exchanged in the second. Block 1 of
+/// the broken scan is fill, and blocks 2, 5 and 10 over the leap second are.
 fn sample() -> Vec<u8> {
     let scanned_at = |number: u8, n: usize, is_fill: bool, time: Tag| match number {
         0 => made(0, 8, 8_040, 2, is_fill, time),
@@ -202,9 +180,6 @@ fn sample() -> Vec<u8> {
     add(1, &made(2, 10, 84, 3, false, on_day_61(13_100)));
     for (ms, west, east) in [(13_200, 600, 1_200), (13_300, 1_200, 600)] {
         add(1, &made_of(11, 8, 3, false, on_day_61(ms), &sounder_words(west, east)));
-    }
-    for (ms, set, numbers) in [(13_400, Set::Imager, &IMAGER_NUMBERS[..]), (13_500, Set::Sounder, &SOUNDER_NUMBERS)] {
-        add(1, &made_of(11, 8, 3, false, on_day_61(ms), &spacelook_words(set, numbers)));
     }
     bytes
 }
@@ -278,10 +253,8 @@ mod tests {
     use independent::block::read;
     use independent::header::meaning;
     use independent::library::{OfferAnswer, StatusAnswer, SuspectAnswer};
-    use independent::parity::{imager, sounder};
     use independent::recording::list;
     use independent::rows::LARGEST_C;
-    use independent::spacelook::{all, Set};
     use independent::status::{detectors, status, suspect, Detector};
     use independent::tags::Tag;
     use independent::watch::{begin, offer, Verdict};
@@ -350,7 +323,7 @@ mod tests {
         use Verdict::*;
         let whole = [&[Opened][..], &[Kept; 9], &[Complete], &[Stray; 5]].concat();
         let closed = [Opened, Kept, Late, Opened, Kept, ClockBack, Opened, Kept, Broken];
-        [&whole[..], &closed, scan, &[Stray; 6]].concat()
+        [&whole[..], &closed, scan, &[Stray; 4]].concat()
     }
 
     #[test]
@@ -376,11 +349,11 @@ mod tests {
         assert_eq!(verdicts(&[]), with_leap_scan(&broken));
     }
 
-    /// The words of the sample's last four fields, 44 to 47, which are blocks 11 a tenth of a second apart.
-    fn last_blocks() -> [Vec<u16>; 4] {
+    /// The words of the sample's last two fields, which are 44 and 45.
+    fn sounder_blocks() -> [Vec<u16>; 2] {
         let fields = fields();
-        assert_eq!(fields.len(), 47);
-        [43, 44, 45, 46].map(|place| {
+        assert_eq!(fields.len(), 45);
+        [43, 44].map(|place| {
             let (tag, body) = &fields[place];
             let mut words = vec![0; 8_040];
             let answer = read(body, &mut words);
@@ -393,7 +366,7 @@ mod tests {
 
     #[test]
     fn the_sample_has_a_sounder_block_with_three_suspect_detectors() {
-        let [words, ..] = last_blocks();
+        let [words, _] = sounder_blocks();
         let answer = status(&words, &[]);
         let mut tags = std::array::from_fn(|tag| (0, super::on_day_61(13_200 + 100 * tag as i64)));
         tags[10] = (12, Tag::default());
@@ -410,43 +383,12 @@ mod tests {
     }
 
     #[test]
-    fn field_45_of_the_sample_has_its_pixels_exchanged() {
-        let [good, words, ..] = last_blocks();
+    fn the_last_field_of_the_sample_has_its_pixels_exchanged() {
+        let [good, words] = sounder_blocks();
         assert_eq!(status(&words, &[]), StatusAnswer::refused(22, 189));
         assert_eq!(suspect(&words, &[], 4, 2), SuspectAnswer::refused(22, 189));
         let differ: Vec<usize> = (1..=8_040).filter(|number| words[number - 1] != good[number - 1]).collect();
         assert_eq!(differ, [187, 188, 189, 190]);
-    }
-
-    /// All numbers of a block that are not zero, by their places among all.
-    fn numbers_of(set: Set, words: &[u16]) -> Vec<(usize, u8, f64)> {
-        let (mut doubles, mut cases) = (vec![0.5; 1_828], vec![9; 1_828]);
-        let (answer, count) = all(set, words, &mut doubles, &mut cases);
-        assert_eq!(answer, 0);
-        (0..count).filter(|place| cases[*place] != 0).map(|place| (place, cases[place], doubles[place])).collect()
-    }
-
-    #[test]
-    fn the_sample_has_block_1_of_the_imager_spacelook_set() {
-        let [.., words, _] = last_blocks();
-        assert_eq!(imager(&words), (0, [true; 4]));
-        assert_eq!(words[..9], [15, 1, 22, 63, 0, 0, 0, 1, 0]);
-        let wanted = [(15, 1, 100.1640625), (16, 1, 1.0), (17, 1, -1.0), (18, 2, 0.0), (1_827, 1, 0.1640625)];
-        assert_eq!(numbers_of(Set::Imager, &words), wanted);
-        let others: Vec<usize> = (1..=8_040).filter(|number| words[number - 1] != 0).collect();
-        let numbers = [463, 464, 465, 467, 468, 471, 472, 475, 7_899, 7_900];
-        // The parity of zeros, which the third section is, is zero.
-        assert_eq!(others, [&[1, 2, 3, 4, 8, 222][..], &numbers[..8], &[702], &numbers[8..], &[7_906]].concat());
-    }
-
-    #[test]
-    fn the_sample_has_block_1_of_the_sounder_spacelook_set() {
-        let [.., words] = last_blocks();
-        assert_eq!(sounder(&words), (0, [true; 2]));
-        assert_eq!(words[..9], [15, 1, 38, 63, 0, 0, 0, 1, 0]);
-        assert_eq!(numbers_of(Set::Sounder, &words), [(0, 1, 1.0), (447, 1, -0.1640625)]);
-        let others: Vec<usize> = (1..=8_040).filter(|number| words[number - 1] != 0).collect();
-        assert_eq!(others, [1, 2, 3, 4, 8, 222, 1_135, 1_136, 2_923, 2_924, 2_927]);
     }
 
     #[test]

@@ -69,46 +69,6 @@ extern "C" {
     pub fn rahmisve_parity_imager(words: *const u16, words_length: usize, holds: *mut [u8; 4]) -> u8;
     /// Judges those of block 1 of the Sounder spacelook set.
     pub fn rahmisve_parity_sounder(words: *const u16, words_length: usize, holds: *mut [u8; 2]) -> u8;
-    /// Reads a floating number of the format: returns the reading.
-    pub fn rahmisve_read_floating(word: u32, number: *mut f64) -> u8;
-    /// Reads one number of block 1 of the Imager spacelook set.
-    pub fn rahmisve_spacelook_imager(
-        words: *const u16,
-        words_length: usize,
-        field: u32,
-        index: u32,
-        reading: *mut u8,
-        number: *mut f64,
-    ) -> u8;
-    /// Reads one of block 1 of the Sounder spacelook set.
-    pub fn rahmisve_spacelook_sounder(
-        words: *const u16,
-        words_length: usize,
-        field: u32,
-        index: u32,
-        reading: *mut u8,
-        number: *mut f64,
-    ) -> u8;
-    /// Reads all numbers of block 1 of the Imager spacelook set, to the front of two rooms.
-    pub fn rahmisve_spacelook_imager_all(
-        words: *const u16,
-        words_length: usize,
-        numbers: *mut f64,
-        numbers_length: usize,
-        readings: *mut u8,
-        readings_length: usize,
-        count: *mut usize,
-    ) -> u8;
-    /// Reads all of block 1 of the Sounder spacelook set, likewise.
-    pub fn rahmisve_spacelook_sounder_all(
-        words: *const u16,
-        words_length: usize,
-        numbers: *mut f64,
-        numbers_length: usize,
-        readings: *mut u8,
-        readings_length: usize,
-        count: *mut usize,
-    ) -> u8;
     /// Reads a time tag.
     pub fn rahmisve_read_tag(
         tag: *const u8,
