@@ -1,0 +1,31 @@
+// Where a record lies, its channel and detector: c_records.
+ghost use Rattle.std.specs.Prelude.{◌≡◌};
+ghost use Rattle.records.specs.Records.{part_of};
+ghost use Rattle.placement.specs.Placement.{place_of};
+ghost use Rattle.c_numbers.specs.Numbers.{up_to};
+
+#[unsafe(no_mangle)]
+pub extern "C" fn rahmisve_record(
+    header: &[u8],
+    word_count: usize,
+    record: u32,
+    start: &mut usize,
+    length: &mut usize,
+) -> u8
+    ensures { record { number = result; start = start.new; length = length.new } ≡ part_of header.now (up_to 255 «record») word_count }
+{
+    c_records::rahmisve_record(header, word_count, record, start, length)
+}
+
+#[unsafe(no_mangle)]
+pub extern "C" fn rahmisve_place(
+    block: u32,
+    version: u32,
+    record: u32,
+    channel: &mut u8,
+    detector: &mut u8,
+) -> u8
+    ensures { record { number = result; channel = channel.new; detector = detector.new } ≡ place_of (up_to 255 block) (up_to 255 version) (up_to 255 «record») }
+{
+    c_records::rahmisve_place(block, version, record, channel, detector)
+}

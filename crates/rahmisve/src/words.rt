@@ -1,0 +1,28 @@
+// The check word, words out of a field and into one: c_fields.
+ghost use Rattle.std.specs.Prelude.{◌≡◌, length};
+ghost use Rattle.check_rule.specs.Check.{check_word};
+ghost use Rattle.bits.specs.Fields.{take_answer, room_taken, put_answer, field_put};
+ghost use Rattle.c_numbers.specs.Numbers.{up_to};
+
+#[unsafe(no_mangle)]
+pub extern "C" fn rahmisve_check_word(message: &[u8]) -> u16
+    ensures { result ≡ check_word message.now }
+{
+    c_fields::rahmisve_check_word(message)
+}
+
+#[unsafe(no_mangle)]
+pub extern "C" fn rahmisve_take_words(field: &[u8], size: u32, count: usize, room: &mut [u16]) -> u8
+    ensures value { result ≡ take_answer (up_to 255 size) count field.now (length room.old) }
+    ensures room_after { room.new ≡ room_taken (up_to 255 size) count field.now room.old }
+{
+    c_fields::rahmisve_take_words(field, size, count, room)
+}
+
+#[unsafe(no_mangle)]
+pub extern "C" fn rahmisve_put_words(words: &[u16], size: u32, field: &mut [u8]) -> u8
+    ensures value { result ≡ put_answer (up_to 255 size) words.now (length field.old) }
+    ensures field_after { field.new ≡ field_put (up_to 255 size) words.now field.old }
+{
+    c_fields::rahmisve_put_words(words, size, field)
+}
