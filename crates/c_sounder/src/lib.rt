@@ -76,18 +76,17 @@ fn row_of(read: TagRead) -> [u32; 8]
     ]
 }
 
-// The rows begin as copies of the first, and not as zeros: to clear so many bytes the compiler would call `memset`.
-fn rows_of(tags: [TagRead; 15]) -> [[u32; 8]; 15]
-    ensures { result ≡ map row_of tags }
+// Row by row to the place that C lends, and in a function of its own: where so many bytes are a local, or are known to be zeros, the
+// compiler calls `memset`.
+#[inline(never)]
+fn rows_of(tags: [TagRead; 15], rows: &mut [[u32; 8]; 15])
+    ensures { rows.new ≡ map row_of tags }
 {
-    let first = row_of(tags[0]);
-    let mut rows = [first; TAGS];
     let mut i: usize = 0;
     while i < TAGS {
         rows[i] = row_of(tags[i]);
         i += 1;
     }
-    rows
 }
 
 #[unsafe(no_mangle)]
@@ -104,7 +103,7 @@ pub extern "C" fn rahmisve_sounder_status(
     let judged = sounder::judge(words, leap_days);
     let read = judged.tags;
     *status = numbers_of(judged);
-    *tags = rows_of(read);
+    rows_of(read, tags);
     judged.number
 }
 

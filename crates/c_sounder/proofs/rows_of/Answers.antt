@@ -1,6 +1,6 @@
 -- `c_sounder::rows_of` meets its contract: so many rows are filled so far.
 -- Assumes nothing.
-use mathlib.Core.Path.{sym, subst}
+use mathlib.Core.Path.{sym, subst, ◌∙◌}
 use mathlib.Core.List.{List}
 use Prim.Native.Nat.{ℕ, ◌+◌, ◌-◌, ◌<◌}
 use native.Mathlib.Omega.{arith}
@@ -14,7 +14,7 @@ use Rattle.c_sounder.proofs.rows_of.Invariants.{none}
 use Rattle.c_sounder.proofs.rows_of.Goals as goal
 
 pub loop-i-init : goal.loop-i-init
-loop-i-init c = start row_of none _ _ c.well_formed.0.1.0.1
+loop-i-init c = start row_of none _ _ (c.well_formed.0.1.0.1 ∙ sym c.told-rows)
 
 pub bounds-tags-i : goal.bounds-tags-i
 bounds-tags-i c = omega arith
