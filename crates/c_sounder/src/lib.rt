@@ -79,8 +79,8 @@ fn row_of(read: TagRead) -> [u32; 8]
 // Row by row to the place that C lends, and in a function of its own: where so many bytes are a local, or are known to be zeros, the
 // compiler calls `memset`.
 #[inline(never)]
-fn rows_of(tags: [TagRead; 15], rows: &mut [[u32; 8]; 15])
-    ensures { rows.new ≡ map row_of tags }
+fn rows_of(tags: &[TagRead; 15], rows: &mut [[u32; 8]; 15])
+    ensures { rows.new ≡ map row_of tags.now }
 {
     let mut i: usize = 0;
     while i < TAGS {
@@ -101,9 +101,8 @@ pub extern "C" fn rahmisve_sounder_status(
     ensures tags_after { tags.new ≡ map row_of (status_of leap_days.now words.now).tags }
 {
     let judged = sounder::judge(words, leap_days);
-    let read = judged.tags;
     *status = numbers_of(judged);
-    rows_of(read, tags);
+    rows_of(&judged.tags, tags);
     judged.number
 }
 

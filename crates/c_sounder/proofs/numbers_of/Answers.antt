@@ -1,7 +1,6 @@
 -- `c_sounder::numbers_of` meets its contract, number by number.
 -- Assumes nothing.
 use mathlib.Core.List.{[], ◌∷◌}
-use borrow.Author.Rules.{rules}
 use Rattle.c_sounder.proofs.numbers_of.Goals as goal
 
 pub returns : goal.returns

@@ -4,7 +4,6 @@ use mathlib.Core.Path.{ap, ◌∙◌}
 use mathlib.Core.List.{map}
 use Rattle.sounder.specs.declared.Status.{Status}
 use Rattle.c_sounder.specs.Rows.{numbers_of, row_of}
-use borrow.Author.Rules.{rules}
 use Rattle.c_sounder.proofs.rahmisve_sounder_status.Goals as goal
 
 pub returns : goal.returns

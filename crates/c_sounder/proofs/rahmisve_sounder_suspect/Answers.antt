@@ -3,7 +3,6 @@
 use mathlib.Core.Path.{ap, ◌∙◌}
 use Rattle.sounder.specs.declared.Asked.{Asked}
 use Rattle.c_numbers.specs.Marks.{mark}
-use borrow.Author.Rules.{rules}
 use Rattle.c_sounder.proofs.rahmisve_sounder_suspect.Goals as goal
 
 pub returns : goal.returns

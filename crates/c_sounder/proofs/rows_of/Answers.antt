@@ -2,35 +2,32 @@
 -- Assumes nothing.
 use mathlib.Core.Path.{sym, subst, ◌∙◌}
 use mathlib.Core.List.{List}
-use Prim.Native.Nat.{ℕ, ◌+◌, ◌-◌, ◌<◌}
+use Prim.Native.Nat.{ℕ, ◌+◌, ◌<◌}
 use native.Mathlib.Omega.{arith}
-use borrow.Author.Rules.{rules}
 use lib.ListN.{length, set}
 use Rattle.ground.proofs.LawsFilling.{Filling, start, next, finish}
-use Rattle.tag.specs.declared.TagRead.{TagRead}
-use Rattle.tag.specs.Tags.{zero_tag}
 use Rattle.c_sounder.specs.Rows.{row_of}
 use Rattle.c_sounder.proofs.rows_of.Invariants.{none}
 use Rattle.c_sounder.proofs.rows_of.Goals as goal
 
 pub loop-i-init : goal.loop-i-init
-loop-i-init c = start row_of none _ _ (c.well_formed.0.1.0.1 ∙ sym c.told-rows)
+loop-i-init c = start row_of none _ _ (c.told-tags ∙ sym c.told-rows)
 
 pub bounds-tags-i : goal.bounds-tags-i
 bounds-tags-i c = omega arith
 
 pub bounds-rows-i : goal.bounds-rows-i
-bounds-rows-i c = omega (arith, c.loop-i.invariant.long, c.well_formed.0.1.0.1)
+bounds-rows-i c = omega (arith, c.loop-i.invariant.long, c.told-tags)
 
 pub loop-i-preserved : goal.loop-i-preserved
 loop-i-preserved c =
     let rows = c.loop-i.rows in
     let i = c.loop-i.i in
-    let in_rows : i < length rows = omega (arith, c.loop-i.invariant.long, c.well_formed.0.1.0.1) in
-    subst (λ (row : List ℕ). Filling row_of none c.args.tags (set rows i row) (i + 1)) (sym c.row_of.ensures)
+    let in_rows : i < length rows = omega (arith, c.loop-i.invariant.long, c.told-tags) in
+    subst (λ (row : List ℕ). Filling row_of none c.args.tags.now (set rows i row) (i + 1)) (sym c.row_of.ensures)
     (next row_of none c.loop-i.invariant in_rows)
 
 pub returns : goal.returns
 returns c =
     finish row_of none c.loop-i.invariant
-    (omega (arith, c.loop-i.invariant.long, c.well_formed.0.1.0.1, c.loop-i-test.false))
+    (omega (arith, c.loop-i.invariant.long, c.told-tags, c.loop-i-test.false))

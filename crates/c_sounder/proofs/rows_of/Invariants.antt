@@ -1,12 +1,7 @@
 -- `c_sounder::rows_of` meets its contract: so many rows are filled so far.
 -- Assumes nothing.
-use mathlib.Core.Path.{sym, subst}
-use mathlib.Core.List.{List}
-use Prim.Native.Nat.{ℕ, ◌+◌, ◌-◌, ◌<◌}
-use native.Mathlib.Omega.{arith}
-use borrow.Author.Rules.{rules}
-use lib.ListN.{length, set}
-use Rattle.ground.proofs.LawsFilling.{Filling, start, next, finish}
+use Prim.Native.Nat.{◌-◌}
+use Rattle.ground.proofs.LawsFilling.{Filling}
 use Rattle.tag.specs.declared.TagRead.{TagRead}
 use Rattle.tag.specs.Tags.{zero_tag}
 use Rattle.c_sounder.specs.Rows.{row_of}
