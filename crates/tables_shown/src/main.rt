@@ -1,21 +1,30 @@
 // The two tables run: the worked examples of 504-02 section 3.5.2, every placement, and the verdicts on whole blocks. What is
 // printed is compared with the file stdout.
+#![tactic(auto)]
 
-use libc::STDOUT_FILENO;
+ghost use Rattle.std.specs.Prelude.{IsTrue};
+
 use parity::Layout;
 
-fn print(text: &[u8]) {
-    io::write_all(STDOUT_FILENO, text);
+fn print(rt: &HostRuntime, text: &[u8]) {
+    let _ = rt.write_all(text);
 }
 
-fn number(n: u8) {
-    io::print_decimal(STDOUT_FILENO, n as u64);
+fn number(rt: &HostRuntime, n: u8) {
+    let _ = print!(rt; "{n}");
+}
+
+// What is so is known before it runs.
+fn expect(holds: bool)
+    requires { IsTrue holds }
+{
+    prove!(holds);
 }
 
 // A segment of four eight-bit words, and one of five ten-bit words.
 fn worked_examples() {
     let four: [u16; 4] = [0b00001010, 0b00100110, 0b00001111, 0b00011111];
-    check::expect(parity::parity_of(&four) == 0b00111100);
+    expect(parity::parity_of(&four) == 0b00111100);
     let five: [u16; 5] = [
         0b1000001101,
         0b1100000010,
@@ -23,101 +32,101 @@ fn worked_examples() {
         0b1111001100,
         0b1111101110,
     ];
-    check::expect(parity::parity_of(&five) == 0b1010100101);
+    expect(parity::parity_of(&five) == 0b1010100101);
 }
 
-fn placed(block: u8, version: u8, record: u8) {
+fn placed(rt: &HostRuntime, block: u8, version: u8, record: u8) {
     let p = placement::place(block, version, record);
-    print(b"  ");
-    number(p.number);
-    print(b" ");
-    number(p.channel);
-    print(b"/");
-    number(p.detector);
+    print(rt, b"  ");
+    number(rt, p.number);
+    print(rt, b" ");
+    number(rt, p.channel);
+    print(rt, b"/");
+    number(rt, p.detector);
 }
 
-fn head(block: u8, version: u8) {
-    number(block);
-    print(b" ");
-    number(version);
+fn head(rt: &HostRuntime, block: u8, version: u8) {
+    number(rt, block);
+    print(rt, b" ");
+    number(rt, version);
 }
 
-fn end() {
-    print(b"\n");
+fn end(rt: &HostRuntime) {
+    print(rt, b"\n");
 }
 
 // A block and a version, then for each record from 0 to 5 the number, the channel and the detector.
-fn records(block: u8, version: u8) {
-    head(block, version);
-    placed(block, version, 0);
-    placed(block, version, 1);
-    placed(block, version, 2);
-    placed(block, version, 3);
-    placed(block, version, 4);
-    placed(block, version, 5);
-    end();
+fn records(rt: &HostRuntime, block: u8, version: u8) {
+    head(rt, block, version);
+    placed(rt, block, version, 0);
+    placed(rt, block, version, 1);
+    placed(rt, block, version, 2);
+    placed(rt, block, version, 3);
+    placed(rt, block, version, 4);
+    placed(rt, block, version, 5);
+    end(rt);
 }
 
 // Blocks 0 to 12, each in versions 0 to 4.
-fn placements() {
+fn placements(rt: &HostRuntime) {
     for k in 0..65 {
-        records(k / 5, k % 5);
+        records(rt, k / 5, k % 5);
     }
 }
 
-fn mark(holds: bool) {
+fn mark(rt: &HostRuntime, holds: bool) {
     if holds {
-        print(b" 1");
+        print(rt, b" 1");
     } else {
-        print(b" 0");
+        print(rt, b" 0");
     }
 }
 
-fn verdicts(layout: Layout, words: &[u16]) {
+fn verdicts(rt: &HostRuntime, layout: Layout, words: &[u16]) {
     let s = parity::check_sections(layout, words);
-    number(s.number);
-    print(b" ");
-    number(s.count);
+    number(rt, s.number);
+    print(rt, b" ");
+    number(rt, s.count);
     let holds = s.holds;
-    mark(holds[0]);
-    mark(holds[1]);
-    mark(holds[2]);
-    mark(holds[3]);
-    end();
+    mark(rt, holds[0]);
+    mark(rt, holds[1]);
+    mark(rt, holds[2]);
+    mark(rt, holds[3]);
+    end(rt);
 }
 
-fn both(words: &[u16]) {
-    verdicts(Layout::ImagerSpacelook, words);
-    verdicts(Layout::SounderSpacelook, words);
+fn both(rt: &HostRuntime, words: &[u16]) {
+    verdicts(rt, Layout::ImagerSpacelook, words);
+    verdicts(rt, Layout::SounderSpacelook, words);
 }
 
 // From a block of zeros, word by word: 7902 breaks the fourth Imager section, 7906 mends it, 7903 to 7905 change nothing, 222 breaks
 // the first section of both layouts, 221 mends it, 2927 breaks the Sounder's second and the Imager's fourth.
-fn blocks() {
+fn blocks(rt: &HostRuntime) {
     let mut words = [0u16; 8041];
-    both(&words[..8040]);
+    both(rt, &words[..8040]);
     words[7901] = 1;
-    both(&words[..8040]);
+    both(rt, &words[..8040]);
     words[7905] = 1;
-    both(&words[..8040]);
+    both(rt, &words[..8040]);
     words[7902] = 7;
     words[7903] = 8;
     words[7904] = 16;
-    both(&words[..8040]);
+    both(rt, &words[..8040]);
     words[221] = 128;
-    both(&words[..8040]);
+    both(rt, &words[..8040]);
     words[220] = 128;
-    both(&words[..8040]);
+    both(rt, &words[..8040]);
     words[2926] = 255;
-    both(&words[..8040]);
+    both(rt, &words[..8040]);
     words[8039] = 256;
-    both(&words[..8040]);
-    both(&words[..8039]);
-    both(&words);
+    both(rt, &words[..8040]);
+    both(rt, &words[..8039]);
+    both(rt, &words);
 }
 
-fn main() {
+fn main(rt: HostRuntime) {
     worked_examples();
-    placements();
-    blocks();
+    placements(&rt);
+    blocks(&rt);
 }

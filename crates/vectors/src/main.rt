@@ -1,74 +1,75 @@
 // The worked examples of the two leaves, run: the check word of ASCII 123456789, ten-bit and six-bit words taken out of a field, the
 // same words put in again, and the fill behind three of them.
-use libc::STDOUT_FILENO;
+#![tactic(auto)]
 
-fn word(w: u16) {
-    io::write_all(STDOUT_FILENO, b" ");
-    io::print_decimal(STDOUT_FILENO, w as u64);
+fn print(rt: &HostRuntime, text: &[u8]) {
+    let _ = rt.write_all(text);
 }
 
-fn byte(b: u8) {
-    word(b as u16);
+fn word(rt: &HostRuntime, w: u16) {
+    let _ = print!(rt; " {w}");
 }
 
-fn end_line() {
-    io::write_all(STDOUT_FILENO, b"\n");
+fn byte(rt: &HostRuntime, b: u8) {
+    word(rt, b as u16);
 }
 
-fn check_of_digits() {
-    io::write_all(STDOUT_FILENO, b"check of 123456789: ");
-    io::print_hex(
-        STDOUT_FILENO,
-        check_word::check_word(b"123456789") as u64,
-        4,
-    );
-    end_line();
+fn end_line(rt: &HostRuntime) {
+    print(rt, b"\n");
+}
+
+fn check_of_digits(rt: &HostRuntime) {
+    print(rt, b"check of 123456789: ");
+    let check = check_word::check_word(b"123456789");
+    let _ = print!(rt; "{check:04x}");
+    end_line(rt);
 }
 
 // Four words of a field, then what taking them answered.
-fn four_words(field: &[u8], size: u8) {
+fn four_words(rt: &HostRuntime, field: &[u8], size: u8) {
     let mut room = [0u16; 4];
     let answer = taking::take_words(field, size, 4, &mut room);
-    word(room[0]);
-    word(room[1]);
-    word(room[2]);
-    word(room[3]);
-    io::write_all(STDOUT_FILENO, b", answer");
-    byte(answer);
-    end_line();
+    word(rt, room[0]);
+    word(rt, room[1]);
+    word(rt, room[2]);
+    word(rt, room[3]);
+    print(rt, b", answer");
+    byte(rt, answer);
+    end_line(rt);
 }
 
 // The words 1, 2, 3, 4 put into five bytes.
-fn five_bytes() {
+fn five_bytes(rt: &HostRuntime) {
     let words = [1u16, 2, 3, 4];
     let mut field = [255u8; 5];
     let answer = putting::put_words(&words, 10, &mut field);
-    byte(field[0]);
-    byte(field[1]);
-    byte(field[2]);
-    byte(field[3]);
-    byte(field[4]);
-    io::write_all(STDOUT_FILENO, b", answer");
-    byte(answer);
-    end_line();
+    byte(rt, field[0]);
+    byte(rt, field[1]);
+    byte(rt, field[2]);
+    byte(rt, field[3]);
+    byte(rt, field[4]);
+    print(rt, b", answer");
+    byte(rt, answer);
+    end_line(rt);
 }
 
-fn fill(field: &[u8]) {
+fn fill(rt: &HostRuntime, field: &[u8]) {
     if bits::fill_is_zero(field, 10, 3) {
-        io::write_all(STDOUT_FILENO, b"fill behind three words: zero\n");
+        print(rt, b"fill behind three words: zero\n");
     } else {
-        io::write_all(STDOUT_FILENO, b"fill behind three words: not zero\n");
+        print(rt, b"fill behind three words: not zero\n");
     }
 }
 
-fn main() {
-    check_of_digits();
-    io::write_all(STDOUT_FILENO, b"00 40 20 0C 04 in words of 10 bits:");
-    four_words(b"\x00\x40\x20\x0C\x04", 10);
-    io::write_all(STDOUT_FILENO, b"04 20 C4 in words of 6 bits:");
-    four_words(b"\x04\x20\xC4", 6);
-    io::write_all(STDOUT_FILENO, b"words 1 2 3 4 of 10 bits in five bytes:");
-    five_bytes();
-    fill(b"\x00\x40\x20\x0C\x04");
-    fill(b"\x00\x40\x20\x0C\x00");
+fn main(rt: HostRuntime) {
+    let rt = &rt;
+    check_of_digits(rt);
+    print(rt, b"00 40 20 0C 04 in words of 10 bits:");
+    four_words(rt, b"\x00\x40\x20\x0C\x04", 10);
+    print(rt, b"04 20 C4 in words of 6 bits:");
+    four_words(rt, b"\x04\x20\xC4", 6);
+    print(rt, b"words 1 2 3 4 of 10 bits in five bytes:");
+    five_bytes(rt);
+    fill(rt, b"\x00\x40\x20\x0C\x04");
+    fill(rt, b"\x00\x40\x20\x0C\x00");
 }
