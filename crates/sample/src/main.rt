@@ -2,10 +2,13 @@
 // version 2, blocks 11 of every version and size, damaged fields, three scans that a watch with a limit of 5,000 ms closes early, one of
 // them with a fill block, a whole scan over a leap second with three of them, block 2 with three records and with four, and two Sounder
 // documentation blocks, one of which is refused as such.
+#![tactic(auto)]
+
+mod system;
+
 ghost use Rattle.std.specs.Prelude.{◌+◌, ◌<◌, ◌≤◌, length};
 
 use header::EXTRA_WORDS;
-use libc::{STDERR_FILENO, STDOUT_FILENO};
 use tag::Tag;
 
 // The infrared pixels of the first scan, and of all others.
@@ -135,22 +138,24 @@ fn header_of(block: Block) -> [u8; 28]
 
 // Writes the bytes; false where that failed, and standard error says why. So it is with all that put something: the first that fails is the
 // last.
-fn write(bytes: &[u8]) -> bool {
-    if io::write_all(STDOUT_FILENO, bytes) {
-        return true;
+fn write(rt: &HostRuntime, bytes: &[u8]) -> bool {
+    match rt.write_all(bytes) {
+        Ok(()) => true,
+        Err(error) => {
+            system::fail(rt, b"standard output", error);
+            false
+        }
     }
-    os::fail(b"standard output");
-    false
 }
 
 // A field of the recording: the first `end` bytes of the room, where it has them.
-fn put_field(tag: u8, room: &[u8], end: usize) -> bool {
+fn put_field(rt: &HostRuntime, tag: u8, room: &[u8], end: usize) -> bool {
     if room.len() < end {
         return true;
     }
     let front = recording::front_of(tag, (end % 65536) as u16);
-    if write(&front) {
-        return write(&room[..end]);
+    if write(rt, &front) {
+        return write(rt, &room[..end]);
     }
     false
 }
@@ -184,7 +189,7 @@ fn turn_over(room: &mut [u8], at: usize, bit: u8) {
 }
 
 // A field of a block with a bit turned over at a byte, and its last `less` bytes left out.
-fn put_damaged(block: Block, tag: u8, at: usize, bit: u8, less: usize) -> bool
+fn put_damaged(rt: &HostRuntime, block: Block, tag: u8, at: usize, bit: u8, less: usize) -> bool
     requires { block.words < 65534 }
 {
     let mut pattern = [0u16; MOST_WORDS];
@@ -195,13 +200,13 @@ fn put_damaged(block: Block, tag: u8, at: usize, bit: u8, less: usize) -> bool
     if end < less {
         return true;
     }
-    put_field(tag, &room, end - less)
+    put_field(rt, tag, &room, end - less)
 }
 
-fn put_block(block: Block) -> bool
+fn put_block(rt: &HostRuntime, block: Block) -> bool
     requires { block.words < 65534 }
 {
-    put_damaged(block, recording::BLOCK, 0, 0, 0)
+    put_damaged(rt, block, recording::BLOCK, 0, 0, 0)
 }
 
 // A block 1 to 10 of version 2 and of so many infrared pixels.
@@ -224,15 +229,15 @@ fn scanned(number: u8, pixels: u16, valid: u8, time: Tag) -> Block
     }
 }
 
-fn put_scanned(number: u8, pixels: u16, valid: u8, time: Tag) -> bool
+fn put_scanned(rt: &HostRuntime, number: u8, pixels: u16, valid: u8, time: Tag) -> bool
     requires { pixels < 5237 }
 {
     let block = scanned(number, pixels, valid, time);
-    put_block(block)
+    put_block(rt, block)
 }
 
 // A block whose count is given: 0 and 11, which have a fixed one, and a block 2 of either row.
-fn put_counted(id: u8, size: u8, words: u16, version: u8, time: Tag) -> bool
+fn put_counted(rt: &HostRuntime, id: u8, size: u8, words: u16, version: u8, time: Tag) -> bool
     requires { words < 65534 }
 {
     let block = Block {
@@ -243,11 +248,11 @@ fn put_counted(id: u8, size: u8, words: u16, version: u8, time: Tag) -> bool
         valid: DATA,
         time: time,
     };
-    put_block(block)
+    put_block(rt, block)
 }
 
-fn put_block_0(time: Tag) -> bool {
-    put_counted(240, 8, 8040, 2, time)
+fn put_block_0(rt: &HostRuntime, time: Tag) -> bool {
+    put_counted(rt, 240, 8, 8040, 2, time)
 }
 
 // The data valid word of a block in a scan over the end of a day of 2008: on the leap day blocks 2, 5 and 10 are fill.
@@ -262,17 +267,17 @@ fn valid_in_scan(day: u16, number: u8) -> u8 {
 }
 
 // Blocks 0 to 10, so many milliseconds apart, over the end of a day of 2008: completed.
-fn put_scan(day: u16, apart: u16, pixels: u16) -> bool
+fn put_scan(rt: &HostRuntime, day: u16, apart: u16, pixels: u16) -> bool
     requires fact_1 { day < 367 }
     requires fact_2 { pixels < 5237 }
 {
-    if !put_block_0(at(day, SCAN)) {
+    if !put_block_0(rt, at(day, SCAN)) {
         return false;
     }
     let mut number: u8 = 1;
     while number <= 10 {
         let time = at(day, SCAN + apart as u32 * number as u32);
-        if !put_scanned(number, pixels, valid_in_scan(day, number), time) {
+        if !put_scanned(rt, number, pixels, valid_in_scan(day, number), time) {
             return false;
         }
         number += 1;
@@ -281,59 +286,59 @@ fn put_scan(day: u16, apart: u16, pixels: u16) -> bool
 }
 
 // Blocks 11 of every version and size.
-fn put_blocks_11(ms: u32) -> bool
+fn put_blocks_11(rt: &HostRuntime, ms: u32) -> bool
     requires { ms + 300 < 4294967296 }
 {
-    put_counted(11, 8, 8040, 0, at(DAY, ms))
-        && put_counted(11, 6, 10720, 1, at(DAY, ms + 100))
-        && put_counted(11, 10, 6432, 2, at(DAY, ms + 200))
-        && put_counted(11, 8, 8040, 3, at(DAY, ms + 300))
+    put_counted(rt, 11, 8, 8040, 0, at(DAY, ms))
+        && put_counted(rt, 11, 6, 10720, 1, at(DAY, ms + 100))
+        && put_counted(rt, 11, 10, 6432, 2, at(DAY, ms + 200))
+        && put_counted(rt, 11, 8, 8040, 3, at(DAY, ms + 300))
 }
 
 // A header copy hit, which the other two make good; the data hit; a byte missing; another tag; fewer bytes than a header has.
-fn put_hits(ms: u32) -> bool {
+fn put_hits(rt: &HostRuntime, ms: u32) -> bool {
     let block = scanned(3, PIXELS, DATA, at(DAY, ms));
-    put_damaged(block, recording::BLOCK, 5, 16, 0)
-        && put_damaged(block, recording::BLOCK, 200, 1, 0)
-        && put_damaged(block, recording::BLOCK, 0, 0, 1)
-        && put_damaged(block, 2, 0, 0, 0)
-        && put_damaged(block, recording::BLOCK, 0, 0, 2700)
+    put_damaged(rt, block, recording::BLOCK, 5, 16, 0)
+        && put_damaged(rt, block, recording::BLOCK, 200, 1, 0)
+        && put_damaged(rt, block, recording::BLOCK, 0, 0, 1)
+        && put_damaged(rt, block, 2, 0, 0, 0)
+        && put_damaged(rt, block, recording::BLOCK, 0, 0, 2700)
 }
 
 // Block 1 comes 5,000 ms after block 0, and block 2 a millisecond more after that: late.
-fn put_late(ms: u32) -> bool
+fn put_late(rt: &HostRuntime, ms: u32) -> bool
     requires { ms + 10001 < 4294967296 }
 {
-    put_block_0(at(DAY, ms))
-        && put_scanned(1, FEW_PIXELS, DATA, at(DAY, ms + 5000))
-        && put_scanned(2, FEW_PIXELS, DATA, at(DAY, ms + 10001))
+    put_block_0(rt, at(DAY, ms))
+        && put_scanned(rt, 1, FEW_PIXELS, DATA, at(DAY, ms + 5000))
+        && put_scanned(rt, 2, FEW_PIXELS, DATA, at(DAY, ms + 10001))
 }
 
 // Block 2 has a time one millisecond before that of block 1: clock back.
-fn put_clock_back(ms: u32) -> bool
+fn put_clock_back(rt: &HostRuntime, ms: u32) -> bool
     requires { ms + 100 < 4294967296 }
 {
-    put_block_0(at(DAY, ms))
-        && put_scanned(1, FEW_PIXELS, DATA, at(DAY, ms + 100))
-        && put_scanned(2, FEW_PIXELS, DATA, at(DAY, ms + 99))
+    put_block_0(rt, at(DAY, ms))
+        && put_scanned(rt, 1, FEW_PIXELS, DATA, at(DAY, ms + 100))
+        && put_scanned(rt, 2, FEW_PIXELS, DATA, at(DAY, ms + 99))
 }
 
 // Block 2 is hit and refused, so that block 3 is not the one expected: broken. Block 1 is fill.
-fn put_broken(ms: u32) -> bool
+fn put_broken(rt: &HostRuntime, ms: u32) -> bool
     requires { ms + 300 < 4294967296 }
 {
     let second = scanned(2, FEW_PIXELS, DATA, at(DAY, ms + 200));
-    put_block_0(at(DAY, ms))
-        && put_scanned(1, FEW_PIXELS, FILL, at(DAY, ms + 100))
-        && put_damaged(second, recording::BLOCK, 200, 1, 0)
-        && put_scanned(3, FEW_PIXELS, DATA, at(DAY, ms + 300))
+    put_block_0(rt, at(DAY, ms))
+        && put_scanned(rt, 1, FEW_PIXELS, FILL, at(DAY, ms + 100))
+        && put_damaged(rt, second, recording::BLOCK, 200, 1, 0)
+        && put_scanned(rt, 3, FEW_PIXELS, DATA, at(DAY, ms + 300))
 }
 
 // Block 2 with 84 words, which suit both its rows: three records of 12 pixels in version 2, four of 5 in version 3.
-fn put_second(ms: u32) -> bool
+fn put_second(rt: &HostRuntime, ms: u32) -> bool
     requires { ms + 100 < 4294967296 }
 {
-    put_counted(2, 10, 84, 2, at(DAY, ms)) && put_counted(2, 10, 84, 3, at(DAY, ms + 100))
+    put_counted(rt, 2, 10, 84, 2, at(DAY, ms)) && put_counted(rt, 2, 10, 84, 3, at(DAY, ms + 100))
 }
 
 // Bytes as words, over those from `at` on.
@@ -413,7 +418,7 @@ fn lay_documentation(ms: u32, west: u16, east: u16, words: &mut [u16; SOUNDER_WO
 }
 
 // A block 11 of version 3 that has these words.
-fn put_block_11(time: Tag, words: &[u16; SOUNDER_WORDS]) -> bool {
+fn put_block_11(rt: &HostRuntime, time: Tag, words: &[u16; SOUNDER_WORDS]) -> bool {
     let block = Block {
         id: 11,
         size: 8,
@@ -424,41 +429,41 @@ fn put_block_11(time: Tag, words: &[u16; SOUNDER_WORDS]) -> bool {
     };
     let mut room = [0u8; BLOCK_BYTES];
     let end = make(block, words, &mut room);
-    put_field(recording::BLOCK, &room, end)
+    put_field(rt, recording::BLOCK, &room, end)
 }
 
-fn put_sounder(time: Tag, ms: u32, west: u16, east: u16) -> bool
+fn put_sounder(rt: &HostRuntime, time: Tag, ms: u32, west: u16, east: u16) -> bool
     requires { ms + 1400 < 4294967296 }
 {
     let mut words = [0u16; SOUNDER_WORDS];
     lay_documentation(ms, west, east, &mut words);
-    put_block_11(time, &words)
+    put_block_11(rt, time, &words)
 }
 
 // Twice the same frame, the second time with west and east exchanged, which is refused.
-fn put_sounders(ms: u32) -> bool
+fn put_sounders(rt: &HostRuntime, ms: u32) -> bool
     requires { ms + 1400 < 4294967296 }
 {
-    put_sounder(at(DAY, ms), ms, 600, 1200) && put_sounder(at(DAY, ms + 100), ms, 1200, 600)
+    put_sounder(rt, at(DAY, ms), ms, 600, 1200) && put_sounder(rt, at(DAY, ms + 100), ms, 1200, 600)
 }
 
-fn put_all() -> bool {
-    put_scan(DAY, 100, PIXELS)
-        && put_blocks_11(60600)
-        && put_hits(61000)
-        && put_late(61500)
-        && put_clock_back(72000)
-        && put_broken(72500)
-        && put_scan(LEAP_DAY, 200, FEW_PIXELS)
-        && put_second(73000)
-        && put_sounders(73200)
+fn put_all(rt: &HostRuntime) -> bool {
+    put_scan(rt, DAY, 100, PIXELS)
+        && put_blocks_11(rt, 60600)
+        && put_hits(rt, 61000)
+        && put_late(rt, 61500)
+        && put_clock_back(rt, 72000)
+        && put_broken(rt, 72500)
+        && put_scan(rt, LEAP_DAY, 200, FEW_PIXELS)
+        && put_second(rt, 73000)
+        && put_sounders(rt, 73200)
 }
 
 // Any word, an option or a name, is answered with how it is called.
-fn main() {
-    if 1 < os::arg_count() {
-        io::write_all(STDERR_FILENO, b"usage: sample >RECORDING\n");
+fn main(rt: HostRuntime) {
+    if 1 < system::arg_count(&rt) {
+        system::say(&rt, b"usage: sample >RECORDING\n");
         return;
     }
-    put_all();
+    put_all(&rt);
 }
