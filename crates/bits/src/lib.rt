@@ -1,5 +1,7 @@
 // Bits in the order sent, most significant first, and words of `size` bits in a field of bytes: whether they fit, and the fill behind the
 // last one. The meaning is in specs/Bits.antt and specs/Fields.antt. No size and no length is trusted.
+#![tactic(auto)]
+
 ghost use Rattle.std.specs.Prelude.{◌≡◌, ◌+◌, ◌*◌};
 ghost use Rattle.bits.specs.Bits.{value, sent};
 ghost use Rattle.bits.specs.Digits.{digits};

@@ -1,4 +1,5 @@
 // The numbers given on refusal, one name for each. What is a ground, and which of several decides, is in specs/Grounds.antt.
+#![tactic(auto)]
 
 pub const ACCEPTED: u8 = 0;
 // A block shorter than 90 bytes, or a lent header that has not 28 bytes.

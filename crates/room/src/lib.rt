@@ -1,4 +1,6 @@
 // Bytes laid into lent room, from a place on. What is put together from bytes is made of it.
+#![tactic(auto)]
+
 ghost use Rattle.std.specs.Prelude.{◌≡◌, ◌+◌, ◌≤◌, length};
 ghost use Rattle.room.specs.Laid.{laid, inside, laid_inside};
 

@@ -1,5 +1,7 @@
 // The table of field sizes: for a block number the size of its words, its records and the counts of words that it permits, and the
 // length of the field that holds them.
+#![tactic(auto)]
+
 ghost use Rattle.std.specs.Prelude.{◌≡◌, ◌<◌};
 ghost use Rattle.row.specs.Pixels.{visible_of, is_scan};
 ghost use Rattle.row.specs.Rows.{records_in, fixed_row, infrared_row, visible_row, last_row, no_row, row_of, scan_of, permits};

@@ -1,7 +1,6 @@
 -- `bits::turned` meets its contract: its number is what the bytes spell, the lowest first.
 -- Assumes nothing.
 use native.Mathlib.Omega.{arith}
-use borrow.Author.Rules.{rules}
 use Rattle.bits.proofs.LawsDigits.{turned_value}
 use Rattle.bits.proofs.turned.Goals as goal
 

@@ -1,13 +1,9 @@
 -- `room::lay_each` meets its contract: after i turns the first i bytes are laid.
 -- Assumes nothing.
-use mathlib.Core.Path.{◌≡◌, refl, sym, ap, ◌∙◌}
-use mathlib.Core.List.{List}
-use Prim.Native.Nat.{ℕ, ◌+◌, ◌-◌, ◌≤◌}
-use native.Mathlib.Omega.{arith}
-use lib.ListN.{length, get_or, take, set, length-set}
-use lib.Seq.{take_all}
+use mathlib.Core.Path.{◌≡◌}
+use Prim.Native.Nat.{◌-◌, ◌≤◌}
+use lib.ListN.{length, take}
 use Rattle.room.specs.Laid.{laid}
-use Rattle.room.proofs.LawsLaid.{laid_nil, lay_turn}
 use Rattle.room.proofs.lay_each.Given as goal
 
 abbrev pub invariant-loop-i : goal.invariant-loop-i

@@ -5,7 +5,6 @@ use native.Mathlib.Omega.{arith}
 use native.Mathlib.Nat.{max-eq_left, max-eq_right}
 use Rattle.ground.proofs.LawsChoice.{yes, no}
 use Rattle.row.specs.Field.{field_bits}
-use borrow.Author.Rules.{rules}
 use Rattle.row.proofs.field_bits.Goals as goal
 
 pub returns-then-block : goal.returns-then-block

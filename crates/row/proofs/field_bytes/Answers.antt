@@ -3,7 +3,6 @@
 use Prim.Native.Nat.{ℕ, ◌/◌}
 use mathlib.Core.Path.{ap}
 use Rattle.row.specs.Field.{field_bytes}
-use borrow.Author.Rules.{rules}
 use Rattle.row.proofs.field_bytes.Goals as goal
 
 pub returns : goal.returns

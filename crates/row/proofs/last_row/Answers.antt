@@ -3,7 +3,6 @@
 use mathlib.Core.Path.{refl}
 use borrow.Author.Tests.{ne_eqb}
 use Rattle.ground.proofs.LawsChoice.{no}
-use borrow.Author.Rules.{rules}
 use Rattle.row.proofs.last_row.Goals as goal
 
 pub returns-in-6 : goal.returns-in-6

@@ -5,7 +5,6 @@ use borrow.Author.Tests.{eq-eqb, ne_eqb}
 use Rattle.ground.proofs.LawsChoice.{yes, no}
 use Rattle.row.specs.Pixels.{is_scan}
 use Rattle.row.specs.Rows.{permits}
-use borrow.Author.Rules.{rules}
 use Rattle.row.proofs.permits.Goals as goal
 
 pub returns-then-row-eq0 : goal.returns-then-row-eq0

@@ -5,7 +5,6 @@ use native.Mathlib.Omega.{arith}
 use lib.Arith.{lt_of_le-ne}
 use Rattle.row.specs.Rows.{records_in, infrared_row, row_of}
 use Rattle.row.proofs.LawsRow.{row_others, row_none}
-use borrow.Author.Rules.{rules}
 use Rattle.row.proofs.row_of.Goals as goal
 
 pub returns-in-0 : goal.returns-in-0

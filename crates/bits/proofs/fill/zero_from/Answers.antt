@@ -1,14 +1,10 @@
 -- `bits::fill::zero_from` meets its contract: the test of all bytes is that of the bytes joined so far and that of those from k on.
 -- Assumes nothing.
-use Prim.Native.Nat.{◌-◌, ◌≤◌}
 use mathlib.Core.Bool.{Bool, ◌&&◌}
-use mathlib.Core.Path.{◌≡◌, refl, sym, ap, ◌∙◌}
+use mathlib.Core.Path.{refl, sym, ap, ◌∙◌}
 use native.Mathlib.Omega.{arith}
 use lib.Dec.{eqb}
-use lib.ListN.{length, drop}
 use Rattle.ground.proofs.LawsTests.{and_true}
-use Rattle.bits.specs.Bits.{sent}
-use Rattle.bits.specs.Fields.{all_zero}
 use Rattle.bits.proofs.LawsBelow.{below_all}
 use Rattle.bits.proofs.LawsFill.{zero_joined, zero_end}
 use Rattle.bits.proofs.fill.zero_from.Goals as goal
