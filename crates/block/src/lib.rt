@@ -1,5 +1,7 @@
 // Reading a block: its header copies, its information field and its check word. No block is trusted, and no field is copied. What is
 // promised of it stands in specs/Promises.antt.
+#![tactic(auto)]
+
 ghost use Rattle.std.specs.Prelude.{◌≡◌, length};
 ghost use Rattle.block.specs.Answers.{judged_by, room_by, refused_answer, answer_with, answer_of, room_after};
 

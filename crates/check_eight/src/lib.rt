@@ -1,5 +1,7 @@
 // The check word, eight bytes a step and with no table: a word of 64 bits stands for the register, since the generator divides
 // x^64 + x^48 + x^20 + 1.
+#![tactic(auto)]
+
 ghost use Rattle.std.specs.Prelude.{◌≡◌, [], ◌∷◌, ◌+◌, ◌≤◌, length, take, drop};
 ghost use Rattle.bits.specs.Bits.{bits};
 ghost use Rattle.check_rule.specs.Check.{feed, check_word, generator};

@@ -1,5 +1,7 @@
 // The check word, 128 bytes a turn: sixteen words of 64 bits are folded into the next sixteen by shifts of whole words alone, since
 // x^1024 = x^768 + x^320 + 1 modulo the generator.
+#![tactic(auto)]
+
 ghost use Rattle.std.specs.Prelude.{◌≡◌, [], ◌∷◌, ◌+◌, ◌<◌, ◌≤◌, length, take, drop};
 ghost use Rattle.check_rule.specs.Check.{check_word};
 ghost use Rattle.check_eight.specs.Eight.{big};

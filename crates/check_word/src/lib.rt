@@ -1,5 +1,7 @@
 // The check word of a message, and whether a string is a message followed by it. What it is and what it finds is in check_rule; how it is
 // computed, 128 bytes a turn, in check_window.
+#![tactic(auto)]
+
 ghost use Rattle.std.specs.Prelude.{◌≡◌};
 ghost use Rattle.check_rule.specs.Check.{check_word};
 ghost use Rattle.check_rule.specs.Check as check;

@@ -1,4 +1,6 @@
 // The three header copies in front of a block, of which the passing ones must be equal, and the header that they have in common.
+#![tactic(auto)]
+
 ghost use Rattle.std.specs.Prelude.{◌≡◌};
 ghost use Rattle.copies.specs.Copies.{common_of};
 

@@ -1,4 +1,6 @@
 // What a header says of its block, and the plan that comes of it.
+#![tactic(auto)]
+
 ghost use Rattle.std.specs.Prelude.{◌≡◌};
 ghost use Rattle.header.specs.Plans.{plan_of};
 

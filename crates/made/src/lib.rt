@@ -1,5 +1,7 @@
 // The block that a header copy makes of the bytes from a start on: that copy in all three places, and behind them field and check word as
 // they lie. It is there where the copy passes and the reader accepts what is made so.
+#![tactic(auto)]
+
 ghost use Rattle.std.specs.Prelude.{◌≡◌, ◌<◌, length};
 ghost use Rattle.made.specs.Made.{begun_by, bytes_by, scratch_by};
 

@@ -1,5 +1,7 @@
 // A recording: tagged fields, one after the other (specs/Fields.antt); what stands in it from a byte on, and the line that the listing
 // has for a field, as numbers.
+#![tactic(auto)]
+
 ghost use Rattle.std.specs.Prelude.{◌≡◌, length};
 ghost use Rattle.recording.specs.Fields.{front_of};
 ghost use Rattle.recording.specs.Found.{length_at, found_at};

@@ -1,4 +1,6 @@
 // Record access: where a detector record lies in the words that a block was decoded to, and that part of them.
+#![tactic(auto)]
+
 ghost use Rattle.std.specs.Prelude.{◌≡◌, ◌<◌, length};
 ghost use Rattle.records.specs.Records.{refused_part, part_of, record_of};
 

@@ -1,4 +1,6 @@
 // The writer: 28 header bytes and words into lent room, as three equal header copies, the field with zero fill, and its check word.
+#![tactic(auto)]
+
 ghost use Rattle.std.specs.Prelude.{◌≡◌, length};
 ghost use Rattle.writer.specs.Answers.{refused_written, written_of, room_written};
 

@@ -1,7 +1,6 @@
 -- `block::read` meets its contract: a return for the copies, and two for what is behind them, read by the common header.
 -- Assumes nothing.
 use Rattle.block.proofs.LawsReader.{copies_refused, rest_refused, whole_read}
-use borrow.Author.Rules.{rules}
 use Rattle.block.proofs.read.Goals as goal
 
 pub returns-then-common-ne-ACCEPTED : goal.returns-then-common-ne-ACCEPTED

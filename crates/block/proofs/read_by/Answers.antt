@@ -2,7 +2,6 @@
 -- Assumes nothing.
 use Rattle.header.proofs.LawsThen.{plan_brief}
 use Rattle.block.proofs.LawsReader.{header_refused, field_refused, field_held, field_read}
-use borrow.Author.Rules.{rules}
 use Rattle.block.proofs.read_by.Goals as goal
 
 pub returns-then-plan-ne-ACCEPTED : goal.returns-then-plan-ne-ACCEPTED

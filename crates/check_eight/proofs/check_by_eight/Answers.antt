@@ -1,7 +1,6 @@
 -- `check_eight::check_by_eight` meets its contract: before the first byte the register has all its bits set.
 -- Assumes nothing.
 use mathlib.Core.Path.{◌∙◌}
-use borrow.Author.Rules.{rules}
 use Rattle.check_eight.proofs.LawsEight.{starts, checks}
 use Rattle.check_eight.proofs.check_by_eight.Goals as goal
 

@@ -1,12 +1,11 @@
 -- `check_eight::check_from` meets its contract: the word stands for the register after i bytes, eight bytes a turn; then the register itself, a byte a turn.
 -- Assumes nothing.
-use mathlib.Core.Path.{◌≡◌, sym, ap, ◌∙◌, subst⁻¹}
+use mathlib.Core.Path.{sym, ap, ◌∙◌, subst⁻¹}
 use mathlib.Core.List.{List}
-use Prim.Native.Nat.{ℕ, ◌+◌, ◌-◌, ◌<◌, ◌≤◌}
+use Prim.Native.Nat.{ℕ, ◌+◌, ◌<◌, ◌≤◌}
 use native.Mathlib.Omega.{arith}
-use borrow.Author.Rules.{rules}
 use lib.Bits.{bit_xor}
-use lib.ListN.{length, take, get_or}
+use lib.ListN.{length, get_or}
 use lib.Seq.{take_all}
 use Rattle.bits.specs.Bits.{bits, sent}
 use Rattle.check_rule.specs.Check.{generator, feed}

@@ -1,19 +1,11 @@
 -- `check_eight::check_from` meets its contract: the word stands for the register after i bytes, eight bytes a turn; then the register itself, a byte a turn.
 -- Assumes nothing.
-use mathlib.Core.Path.{◌≡◌, sym, ap, ◌∙◌, subst⁻¹}
-use mathlib.Core.List.{List}
-use Prim.Native.Nat.{ℕ, ◌+◌, ◌-◌, ◌<◌, ◌≤◌}
-use native.Mathlib.Omega.{arith}
-use borrow.Author.Rules.{rules}
-use lib.Bits.{bit_xor}
-use lib.ListN.{length, take, get_or}
-use lib.Seq.{take_all}
-use Rattle.bits.specs.Bits.{bits, sent}
+use mathlib.Core.Path.{◌≡◌}
+use Prim.Native.Nat.{◌-◌, ◌≤◌}
+use lib.ListN.{length, take}
+use Rattle.bits.specs.Bits.{sent}
 use Rattle.check_rule.specs.Check.{generator, feed}
-use Rattle.bits.proofs.LawsBelow.{below_all}
-use Rattle.check_rule.proofs.LawsFeed.{feed_next}
-use Rattle.check_eight.specs.Eight.{after, joined, Stands, check_from}
-use Rattle.check_eight.proofs.LawsEight.{begins, stands_next, finishes}
+use Rattle.check_eight.specs.Eight.{after, Stands}
 use Rattle.check_eight.proofs.check_from.Given as goal
 
 abbrev pub invariant-loop-i : goal.invariant-loop-i

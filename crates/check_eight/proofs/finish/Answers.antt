@@ -2,7 +2,6 @@
 -- Assumes nothing.
 use mathlib.Core.Path.{refl}
 use Rattle.check_eight.specs.Eight.{finished}
-use borrow.Author.Rules.{rules}
 use Rattle.check_eight.proofs.finish.Goals as goal
 
 pub returns : goal.returns

@@ -4,7 +4,6 @@ use mathlib.Core.Path.{ap}
 use Prim.Native.Nat.{ℕ}
 use lib.Bits.{bit_xor}
 use Rattle.check_eight.specs.Eight.{joined}
-use borrow.Author.Rules.{rules}
 use Rattle.check_eight.proofs.word_behind.Goals as goal
 
 pub returns : goal.returns

@@ -2,7 +2,6 @@
 -- Assumes nothing.
 use mathlib.Core.Path.{refl}
 use Rattle.check_window.proofs.LawsTurn.{cons}
-use borrow.Author.Rules.{rules}
 use Rattle.check_window.proofs.block.Goals as goal
 
 pub returns : goal.returns

@@ -4,7 +4,6 @@ use mathlib.Core.Path.{refl, ap₂, ◌∙◌, subst⁻¹}
 use mathlib.Core.List.{[], ◌∷◌}
 use Prim.Native.Nat.{◌+◌, ◌-◌, ◌≤◌}
 use native.Mathlib.Omega.{arith}
-use borrow.Author.Rules.{rules}
 use lib.ListN.{length, drop, length-drop}
 use lib.Seq.{take_all}
 use Rattle.check_eight.specs.Eight.{check_from}

@@ -1,17 +1,8 @@
 -- `check_window::check_by_turn` meets its contract: the window stands for the register after i bytes, through both loops.
 -- Assumes nothing.
-use mathlib.Core.Path.{refl, ap₂, ◌∙◌, subst⁻¹}
-use mathlib.Core.List.{[], ◌∷◌}
-use Prim.Native.Nat.{◌+◌, ◌-◌, ◌≤◌}
-use native.Mathlib.Omega.{arith}
-use borrow.Author.Rules.{rules}
-use lib.ListN.{length, drop, length-drop}
-use lib.Seq.{take_all}
-use Rattle.check_eight.specs.Eight.{check_from}
-use Rattle.check_eight.proofs.LawsEight.{checks}
-use Rattle.bits.proofs.LawsBelow.{below_all}
-use Rattle.check_window.specs.Turn.{raw}
-use Rattle.check_window.proofs.LawsTurn.{Holds, begins, goes_on, cons, at_zero}
+use Prim.Native.Nat.{◌-◌, ◌≤◌}
+use lib.ListN.{length}
+use Rattle.check_window.proofs.LawsTurn.{Holds}
 use Rattle.check_window.proofs.check_by_turn.Given as goal
 
 abbrev pub invariant-loop-i : goal.invariant-loop-i

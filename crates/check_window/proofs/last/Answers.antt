@@ -2,7 +2,6 @@
 -- Assumes nothing.
 use mathlib.Core.Path.{refl, ap₂, ◌∙◌}
 use Rattle.check_eight.specs.Eight.{joined}
-use borrow.Author.Rules.{rules}
 use Rattle.check_window.proofs.last.Goals as goal
 
 pub returns : goal.returns

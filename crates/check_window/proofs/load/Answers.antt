@@ -1,7 +1,6 @@
 -- `check_window::load` meets its contract: the eight bytes, one by one, the first one lowest.
 -- Assumes nothing.
 use mathlib.Core.Path.{sym, ap, ◌∙◌}
-use borrow.Author.Rules.{rules}
 use Rattle.check_eight.specs.Eight.{big}
 use Rattle.bits.proofs.LawsElements.{part_eight}
 use Rattle.check_window.proofs.load.Goals as goal

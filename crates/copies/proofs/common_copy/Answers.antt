@@ -7,7 +7,6 @@ use borrow.Author.Tests.{lt-ltb, le-ltb}
 use Rattle.ground.proofs.LawsChoice.{yes, no}
 use Rattle.ground.proofs.LawsGrounds.{refuses}
 use Rattle.copies.specs.Copies.{copy_at, found_common, refused_common, answer_by, agreed_of, common_of}
-use borrow.Author.Rules.{rules}
 use Rattle.copies.proofs.common_copy.Goals as goal
 
 pub returns-then-block-lt-COPIES_BYTES : goal.returns-then-block-lt-COPIES_BYTES

@@ -5,7 +5,6 @@ use native.Mathlib.Omega.{arith}
 use Rattle.ground.proofs.LawsGrounds.{accepts, refuses}
 use Rattle.header.specs.Plans.{granted_plan, refused_plan, plan_of}
 use Rattle.header.proofs.LawsPlans.{short_first, long_first}
-use borrow.Author.Rules.{rules}
 use Rattle.header.proofs.plan_of.Goals as goal
 
 pub returns-then-header-ne-HEADER_BYTES : goal.returns-then-header-ne-HEADER_BYTES

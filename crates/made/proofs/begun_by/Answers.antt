@@ -8,7 +8,6 @@ use Rattle.copies.specs.Copies.{copy_length}
 use Rattle.header.specs.Plans.{plan_of}
 use Rattle.header.proofs.LawsThen.{plan_brief}
 use Rattle.made.proofs.LawsMade.{part_is, header_part, short_none, no_plan, cut_none, unpassed, begun}
-use borrow.Author.Rules.{rules}
 use Rattle.made.proofs.begun_by.Goals as goal
 
 pub returns-then-rest-lt-COPIES_BYTES : goal.returns-then-rest-lt-COPIES_BYTES

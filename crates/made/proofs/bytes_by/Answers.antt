@@ -4,7 +4,6 @@ use mathlib.Core.Path.{sym}
 use native.Mathlib.Omega.{arith}
 use lib.Seq.{length-take-le}
 use Rattle.made.proofs.LawsMade.{length_least, header_part, few_words, makes_none, none_begun, begun_is, begun_inside, block_refused, block_made}
-use borrow.Author.Rules.{rules}
 use Rattle.made.proofs.bytes_by.Goals as goal
 
 pub returns-then-scratch-lt-MOST_WORDS : goal.returns-then-scratch-lt-MOST_WORDS

@@ -1,7 +1,6 @@
 -- `recording::line_of` meets its contract: a return for each end of a line.
 -- Assumes nothing.
 use Rattle.recording.proofs.LawsLines.{other_tag, block_refused, block_listed}
-use borrow.Author.Rules.{rules}
 use Rattle.recording.proofs.line_of.Goals as goal
 
 pub returns-then-tag-ne-BLOCK : goal.returns-then-tag-ne-BLOCK

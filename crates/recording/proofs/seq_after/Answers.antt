@@ -1,7 +1,6 @@
 -- `recording::seq_after` meets its contract: one more, where a count can say it.
 -- Assumes nothing.
 use mathlib.Core.Path.{refl}
-use borrow.Author.Rules.{rules}
 use borrow.Author.Tests.{lt-ltb, le-ltb}
 use Rattle.ground.proofs.LawsChoice.{yes, no}
 use Rattle.recording.proofs.seq_after.Goals as goal

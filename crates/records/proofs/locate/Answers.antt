@@ -2,7 +2,6 @@
 -- Assumes nothing.
 use native.Mathlib.Omega.{arith}
 use Rattle.records.proofs.LawsRecords.{header_refused, record_refused, words_refused, bounds, found, start_inside}
-use borrow.Author.Rules.{rules}
 use Rattle.records.proofs.locate.Goals as goal
 
 pub returns-then-plan-ne-ACCEPTED : goal.returns-then-plan-ne-ACCEPTED

@@ -8,7 +8,6 @@ use lib.ListN.{length, take, drop}
 use Rattle.records.specs.declared.Part.{Part}
 use Rattle.records.specs.Records.{part_of, part_in}
 use Rattle.records.proofs.LawsRecords.{part_inside}
-use borrow.Author.Rules.{rules}
 use Rattle.records.proofs.record_in.Goals as goal
 
 -- the part ends inside the words

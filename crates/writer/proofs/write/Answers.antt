@@ -3,7 +3,6 @@
 use native.Mathlib.Omega.{arith}
 use Rattle.header.proofs.LawsThen.{plan_brief, plan_long}
 use Rattle.writer.proofs.LawsWrite.{header_refused, length_refused, room_refused, held, word_refused, block_written}
-use borrow.Author.Rules.{rules}
 use Rattle.writer.proofs.write.Goals as goal
 
 pub returns-then-plan-ne-ACCEPTED : goal.returns-then-plan-ne-ACCEPTED

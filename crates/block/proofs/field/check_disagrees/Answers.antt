@@ -8,7 +8,6 @@ use lib.ListN.{length, drop, length-drop}
 use lib.Seq.{take_all}
 use Rattle.check_rule.specs.Check.{passes}
 use Rattle.copies.specs.Copies.{copies_length}
-use borrow.Author.Rules.{rules}
 use Rattle.block.proofs.field.check_disagrees.Goals as goal
 
 pub returns : goal.returns

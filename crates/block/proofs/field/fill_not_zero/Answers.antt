@@ -7,7 +7,6 @@ use native.Mathlib.Omega.{arith}
 use lib.ListN.{take, drop}
 use Rattle.bits.specs.Fields.{fill_of, all_zero}
 use Rattle.copies.specs.Copies.{copies_length}
-use borrow.Author.Rules.{rules}
 use Rattle.block.proofs.field.fill_not_zero.Goals as goal
 
 pub returns : goal.returns

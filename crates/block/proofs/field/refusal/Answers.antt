@@ -5,7 +5,6 @@ use mathlib.Core.Path.{refl}
 use native.Mathlib.Omega.{arith}
 use Rattle.ground.proofs.LawsChoice.{yes, no}
 use Rattle.block.proofs.LawsReader.{right_length}
-use borrow.Author.Rules.{rules}
 use Rattle.block.proofs.field.refusal.Goals as goal
 
 pub returns-then-wrong_length : goal.returns-then-wrong_length

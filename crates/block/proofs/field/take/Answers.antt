@@ -8,7 +8,6 @@ use Rattle.bits.specs.Fields.{room_taken}
 use Rattle.copies.specs.Copies.{copies_length}
 use Rattle.block.specs.Layout.{information_field}
 use Rattle.block.proofs.LawsReader.{field_long, words_taken}
-use borrow.Author.Rules.{rules}
 use Rattle.block.proofs.field.take.Goals as goal
 
 pub returns : goal.returns

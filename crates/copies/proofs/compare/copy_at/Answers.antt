@@ -7,7 +7,6 @@ use lib.ListN.{length, take, drop, replicate, length-drop}
 use lib.Seq.{length-take-le}
 use Rattle.copies.specs.Copies.{copy_length, copy_at}
 use Rattle.copies.proofs.LawsSame.{laid_over}
-use borrow.Author.Rules.{rules}
 use Rattle.copies.proofs.compare.copy_at.Goals as goal
 
 pub returns : goal.returns

@@ -2,7 +2,6 @@
 -- Assumes nothing.
 use mathlib.Core.Path.{ap}
 use mathlib.Core.Bool.{Bool, not, ◌&&◌}
-use borrow.Author.Rules.{rules}
 use Rattle.copies.proofs.compare.differ.Goals as goal
 
 pub returns : goal.returns

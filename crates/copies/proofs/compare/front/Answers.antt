@@ -6,7 +6,6 @@ use lib.ListN.{take, replicate}
 use lib.Seq.{length-take-le}
 use Rattle.copies.specs.Copies.{header_length}
 use Rattle.copies.proofs.LawsSame.{laid_over}
-use borrow.Author.Rules.{rules}
 use Rattle.copies.proofs.compare.front.Goals as goal
 
 pub slice_bounds-lay-end : goal.slice_bounds-lay-end

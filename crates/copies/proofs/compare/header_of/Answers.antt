@@ -4,7 +4,6 @@ use mathlib.Core.Path.{refl, ap, ◌∙◌}
 use lib.ListN.{take}
 use Rattle.ground.proofs.LawsChoice.{yes, no}
 use Rattle.copies.specs.Copies.{header_length}
-use borrow.Author.Rules.{rules}
 use Rattle.copies.proofs.compare.header_of.Goals as goal
 
 pub returns-then-first : goal.returns-then-first

@@ -5,7 +5,6 @@ use native.Mathlib.Omega.{arith}
 use Rattle.ground.proofs.LawsGrounds.{first_none}
 use Rattle.header.specs.Plans.{header_grounds}
 use Rattle.header.proofs.LawsPlans.{clear}
-use borrow.Author.Rules.{rules}
 use Rattle.header.proofs.plans.granted.Goals as goal
 
 pub overflow_sub-words : goal.overflow_sub-words

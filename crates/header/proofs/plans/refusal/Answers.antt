@@ -2,7 +2,6 @@
 -- Assumes nothing.
 use mathlib.Core.Path.{refl}
 use Rattle.ground.proofs.LawsChoice.{yes, no}
-use borrow.Author.Rules.{rules}
 use Rattle.header.proofs.plans.refusal.Goals as goal
 
 pub returns-then-unknown_block : goal.returns-then-unknown_block

@@ -3,7 +3,6 @@
 use mathlib.Core.Path.{ap}
 use lib.Dec.{ltb}
 use Rattle.row.specs.Rows.{last_block}
-use borrow.Author.Rules.{rules}
 use Rattle.header.proofs.plans.unknown_block.Goals as goal
 
 pub returns : goal.returns

@@ -6,7 +6,6 @@ use Prim.Native.Nat.{◌-◌}
 use native.Mathlib.Omega.{arith}
 use Rattle.row.specs.Rows.{permits}
 use Rattle.header.proofs.LawsPlans.{few_words, enough_words}
-use borrow.Author.Rules.{rules}
 use Rattle.header.proofs.plans.wrong_count.Goals as goal
 
 pub returns-then-count-lt-EXTRA_WORDS : goal.returns-then-count-lt-EXTRA_WORDS

@@ -1,6 +1,5 @@
 -- `wrong_size` compares the size with that of the row.
 -- Assumes nothing.
-use borrow.Author.Rules.{rules}
 use Rattle.header.proofs.plans.wrong_size.Goals as goal
 
 pub returns : goal.returns

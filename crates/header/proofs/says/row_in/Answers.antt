@@ -1,6 +1,5 @@
 -- `row_in` asks for the row of what the header says.
 -- Assumes nothing.
-use borrow.Author.Rules.{rules}
 use Rattle.header.proofs.says.row_in.Goals as goal
 
 pub returns : goal.returns

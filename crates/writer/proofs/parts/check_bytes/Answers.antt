@@ -2,7 +2,6 @@
 -- Assumes nothing.
 use mathlib.Core.Path.{ap}
 use Rattle.check_rule.specs.Check.{bytes_of}
-use borrow.Author.Rules.{rules}
 use Rattle.writer.proofs.parts.check_bytes.Goals as goal
 
 pub returns : goal.returns

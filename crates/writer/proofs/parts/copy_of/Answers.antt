@@ -1,7 +1,6 @@
 -- `writer::parts::copy_of` meets its contract: the header, then its check behind it, fill the thirty bytes.
 -- Assumes nothing.
 use Rattle.writer.proofs.LawsParts.{copy_made}
-use borrow.Author.Rules.{rules}
 use Rattle.writer.proofs.parts.copy_of.Goals as goal
 
 pub returns : goal.returns

@@ -1,7 +1,6 @@
 -- `writer::parts::put_block` meets its contract: the field refuses or is put; then the copies and the check word around it.
 -- Assumes nothing.
 use Rattle.writer.proofs.LawsParts.{refused, accepted}
-use borrow.Author.Rules.{rules}
 use Rattle.writer.proofs.parts.put_block.Goals as goal
 
 pub returns-then-answer-ne-ACCEPTED : goal.returns-then-answer-ne-ACCEPTED

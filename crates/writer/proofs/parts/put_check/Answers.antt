@@ -6,7 +6,6 @@ use lib.ListN.{take, drop}
 use Rattle.check_rule.specs.Check.{check_word, bytes_of}
 use Rattle.room.specs.Laid.{laid_inside}
 use Rattle.room.proofs.LawsLaid.{laid_inside_is}
-use borrow.Author.Rules.{rules}
 use Rattle.writer.proofs.parts.put_check.Goals as goal
 
 pub returns : goal.returns

@@ -1,7 +1,6 @@
 -- `writer::parts::put_copies` meets its contract: a copy, and one behind it, and one behind both.
 -- Assumes nothing.
 use Rattle.writer.proofs.LawsParts.{copies_made}
-use borrow.Author.Rules.{rules}
 use Rattle.writer.proofs.parts.put_copies.Goals as goal
 
 pub returns : goal.returns

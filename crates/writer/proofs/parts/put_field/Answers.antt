@@ -8,7 +8,6 @@ use lib.ListN.{length, take, drop, length-drop}
 use lib.Seq.{length-take-le}
 use borrow.Rule.Slice.PartMut.{Post-is}
 use Rattle.bits.specs.Fields.{put_answer}
-use borrow.Author.Rules.{rules}
 use Rattle.writer.proofs.parts.put_field.Goals as goal
 
 pub returns : goal.returns
