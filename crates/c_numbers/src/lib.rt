@@ -2,6 +2,8 @@
 // include/rahmisve.h. Numbers and slices go in, numbers come out. Each of their functions answers what the library's own does, on every
 // input. The number of the answer is returned; what else belongs to it goes to places that the caller lends for it. The version of that
 // interface is here too.
+#![tactic(auto)]
+
 ghost use Rattle.std.specs.Prelude.{◌≡◌, not, eqb};
 ghost use Rattle.c_numbers.specs.Numbers.{up_to};
 ghost use Rattle.c_numbers.specs.Marks.{mark};

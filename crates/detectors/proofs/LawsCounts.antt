@@ -2,18 +2,16 @@
 -- the first that is.
 -- Assumes nothing.
 use mathlib.Core.Path.{◌≡◌, refl, sym, ap, ap₂, ◌∙◌, subst}
-use mathlib.Core.Logic.{◌⊎◌, inl, inr}
 use mathlib.Core.List.{List, [], ◌∷◌, ◌++◌}
 use Prim.Native.Nat.{ℕ, zero, suc, ◌+◌, ◌*◌, ◌/◌, ◌%◌, ◌^◌, ◌≤◌, ◌<◌}
 use native.Mathlib.Nat.{zero-mul, one-mul, zero-add, add_assoc, suc-add, zero-lt-suc, mod-lt, pow-suc, div-mul-le_self, lt-div-mul-add}
-use native.Mathlib.Numerals.{add-one}
 use native.Mathlib.Omega.{arith}
 use lib.Arith.{lt-one}
 use lib.Count.{ones, ones_cat, count_leading_zeros, leading_length, leading_unique}
-use lib.ListN.{length, replicate}
+use lib.ListN.{length}
 use lib.Pow.{pow_pos, split, shr_lt}
 use Rattle.bits.specs.Bits.{bits}
-use Rattle.bits.proofs.LawsBits.{length_bits, bits_mod, bits_join, bits_split, bits_zero}
+use Rattle.bits.proofs.LawsBits.{bits_mod}
 use Rattle.detectors.specs.Status.{set_in, before_set}
 
 -- ---- how many

@@ -1,5 +1,7 @@
 // Which of the Sounder's 76 detectors are suspect, by its detector status (504-02 Table 3-10, words 33 to 42): ten bytes with a bit for each
 // detector, which two numbers of 64 bits hold. What the bits say is in specs/Status.antt, what is promised in specs/Promises.antt.
+#![tactic(auto)]
+
 ghost use Rattle.std.specs.Prelude.{◌≡◌, true, ◌++◌, ◌+◌, ◌*◌, ◌^◌, ◌<◌, ◌≤◌, eqb, take, drop, get_or};
 ghost use Rattle.bits.specs.Bits.{bits, sent};
 ghost use Rattle.detectors.specs.Status.{detectors, spare_zero, set_in, before_set, place_at, before, suspects_of, inside, asked_of};

@@ -1,5 +1,7 @@
 // The four-byte floating numbers of the format (504-02 section 3.5.4), of base 16: a sign bit, an exponent of seven bits and a fraction of
 // 24. What is right is in specs/Floating.antt: the f64 given is equal to the number, and none is rounded.
+#![tactic(auto)]
+
 ghost use Rattle.std.specs.Prelude.{◌≡◌, false, ◌<◌, ◌≤◌};
 ghost use Rattle.floating.specs.Floating.{number_of, signed_of, reading_of};
 ghost use Rattle.floating.specs.Cases.{case_of, value_of};

@@ -1,5 +1,6 @@
 // Longitudinal parity (504-02 section 3.5.2): the exclusive or of a section's words, kept in a word behind the section. A block that
 // its check word finds damaged can so be judged section by section.
+#![tactic(auto)]
 
 ghost use Rattle.std.specs.Prelude.{◌≡◌, length};
 ghost use Rattle.parity.specs.declared.Layout.TheVariants.{ImagerSpacelook, SounderSpacelook};

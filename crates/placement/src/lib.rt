@@ -1,5 +1,6 @@
 // The channel and the detector of a record of blocks 1 to 10: the placement by version of 504-02 section 3.2.1, two
 // tables of constants and a lookup in each. What is right is in specs/Placement.antt, how an entry is read in specs/Table.antt.
+#![tactic(auto)]
 
 ghost use Rattle.std.specs.Prelude.{◌≡◌, ◌<◌, ◌≤◌};
 ghost use Rattle.row.specs.Rows.{last_version};

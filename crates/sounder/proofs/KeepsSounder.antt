@@ -23,9 +23,8 @@ use Rattle.detectors.specs.Promises.{Inside}
 use Rattle.detectors.specs.declared.Asked as Detected
 use Rattle.detectors.proofs.KeepsDetectors as Kept
 use Rattle.sounder.specs.Words.{status_in, tag_words}
-use Rattle.sounder.specs.Frame.{frame_of, first_out}
 use Rattle.sounder.specs.Judging.{bare, refusal_of, accepted_as, refused_as, status_of, asked_of}
-use Rattle.sounder.specs.Promises.{status, NoneOut, Lowest, Plain, SpareZero, Numbers, Says, Judging, Asking}
+use Rattle.sounder.specs.Promises.{status, Lowest, Plain, SpareZero, Numbers, Says, Judging, Asking}
 use Rattle.sounder.specs.declared.Refusal.{Refusal}
 use Rattle.sounder.specs.declared.Status.{Status}
 use Rattle.sounder.specs.declared.Asked.{Asked}

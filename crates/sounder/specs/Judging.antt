@@ -1,6 +1,6 @@
 -- What a Sounder documentation block is refused for, and what is answered.
 -- Assumes nothing.
-use Rattle.std.specs.Prelude.{ℕ, Bool, false, not, List, eqb, replicate}
+use Rattle.std.specs.Prelude.{ℕ, false, not, List, eqb, replicate}
 use Rattle.ground.specs.Choice.{pick}
 use Rattle.parity.specs.Words.{ground_of}
 use Rattle.calendar.specs.Leaps.{good_list}

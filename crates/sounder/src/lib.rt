@@ -1,5 +1,7 @@
 // A Sounder documentation block (504-02 Table 3-10), which is 8,040 words of eight bits: which detectors are suspect, the counts of the scan,
 // the fields of the frame against their ranges, and fifteen time tags. What is right is in specs/, what is promised in specs/Promises.antt.
+#![tactic(auto)]
+
 ghost use Rattle.std.specs.Prelude.{◌≡◌};
 ghost use Rattle.parity.specs.Words.{ground_of};
 ghost use Rattle.sounder.specs.Judging.{no_tags, refusal_of, accepted_as, refused_as, status_of, asked_of};

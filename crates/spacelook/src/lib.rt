@@ -1,5 +1,7 @@
 // The floating numbers of the two spacelook blocks 1: the arrays that the tables call 4 x N, read by field and index, or all of them. What is
 // right is in specs/, and the table of arrays in specs/Arrays.antt.
+#![tactic(auto)]
+
 ghost use Rattle.std.specs.Prelude.{◌≡◌, map, ◌≤◌, ◌<◌, ◌+◌, length};
 ghost use Rattle.std.proofs.Math.Seq.{paste};
 ghost use Rattle.parity.specs.Words.{ground_of};

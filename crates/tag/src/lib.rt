@@ -1,5 +1,7 @@
 // CDA time tags: eight bytes of BCD digits to numbers and the flywheel mark, and back. A list of leap days is lent with each: on these days
 // the last minute has a second 60. What a good tag is and what it means stands in specs/, what is promised in specs/Promises.antt.
+#![tactic(auto)]
+
 ghost use Rattle.std.specs.Prelude.{◌≡◌, [], ◌∷◌, replicate};
 ghost use Rattle.tag.specs.Tags.{ends_day, good_second, in_bounds, read_by, read_tag, write_tag, zero_tag};
 

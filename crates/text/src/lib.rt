@@ -1,4 +1,6 @@
 // Text into lent room: bytes as they are, and numbers in decimal (specs/Texts.antt). Where a text does not fit, nothing is put.
+#![tactic(auto)]
+
 ghost use Rattle.std.specs.Prelude.{◌≡◌, ◌+◌, ◌≤◌, length, drop};
 ghost use Rattle.room.specs.Laid.{laid_inside};
 ghost use Rattle.text.specs.Texts.{decimal, ended, ends_at, put_length};

@@ -1,4 +1,6 @@
 // The elapsed time from a first tag to a second. The count behind it is in specs/Times.antt, what is promised of it in specs/Promises.antt.
+#![tactic(auto)]
+
 ghost use Rattle.std.specs.Prelude.{◌≡◌, pos, take};
 ghost use Rattle.calendar.specs.Leaps.{most_leaps};
 ghost use Rattle.time.specs.Times.{between, elapsed_of};

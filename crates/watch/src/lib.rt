@@ -1,6 +1,8 @@
 // The watch that follows blocks 0 to 10 of a scan: how it begins, one offer to it by value, and the thin function over a watch that the
 // host lends. With each offer come the block's data valid word and the list of leap days. What an offer does stands in specs/Rules.antt,
 // what is promised of any sequence of offers in specs/Promises.antt, and of the blocks that were fill in specs/Filled.antt.
+#![tactic(auto)]
+
 ghost use Rattle.std.specs.Prelude.{◌≡◌, eqb};
 ghost use Rattle.watch.specs.Rules.{begin_of, step_of};
 ghost use Rattle.watch.specs.declared.Verdict.TheVariants.{Refused};

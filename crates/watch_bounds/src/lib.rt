@@ -1,6 +1,8 @@
 // The record that a watch is, and what an offer to it is refused for: the record's own bounds first, with the list of leap days, then the
 // block that is offered and its tag. Each test is a function, so that a branch knows an equation of the test itself. The bounds stand in
 // specs/Bounds.antt, what is promised of the numbers in specs/Promises.antt.
+#![tactic(auto)]
+
 ghost use Rattle.std.specs.Prelude.{◌≡◌, true, ◌≤◌, ltb};
 ghost use Rattle.ground.specs.Grounds.{first_of};
 ghost use Rattle.row.specs.Rows.{last_block};

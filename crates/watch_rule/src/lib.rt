@@ -1,5 +1,7 @@
 // The rules of a scan: what an open watch does with an offer, by four numbers. The clock decides first. The rules stand in
 // specs/Rules.antt, what is promised of them in specs/Promises.antt.
+#![tactic(auto)]
+
 ghost use Rattle.std.specs.Prelude.{◌≡◌, eqb, pos};
 ghost use Rattle.std.specs.Int.Signed.{lt_z};
 ghost use Rattle.watch_rule.specs.Rules.{in_time, rule_of};

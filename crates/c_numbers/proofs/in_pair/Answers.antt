@@ -1,6 +1,5 @@
 -- `c_numbers::in_pair` meets its contract: each branch knows its test.
 -- Assumes nothing.
-use borrow.Author.Rules.{rules}
 use Rattle.c_numbers.proofs.LawsNumbers.{over, within}
 use Rattle.c_numbers.proofs.in_pair.Goals as goal
 

@@ -2,7 +2,6 @@
 -- Assumes nothing.
 use mathlib.Core.Path.{sym, ap}
 use Prim.Native.Nat.{ℕ}
-use borrow.Author.Rules.{rules}
 use lib.Dec.{eqb}
 use Rattle.detectors.proofs.LawsHeld.{bit_high, bit_low}
 use Rattle.detectors.proofs.bit_in.Goals as goal

@@ -2,7 +2,6 @@
 -- Assumes nothing.
 use mathlib.Core.Path.{sym, ap, ◌∙◌}
 use native.Mathlib.Omega.{arith}
-use borrow.Author.Rules.{rules}
 use lib.Count.{leading_le}
 use Rattle.detectors.specs.Status.{place_at}
 use Rattle.detectors.proofs.LawsHeld.{first_high, first_low}

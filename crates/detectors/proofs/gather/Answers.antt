@@ -1,10 +1,8 @@
 -- `detectors::gather` meets its contract: the number spells the bytes that were taken.
 -- Assumes nothing.
-use Prim.Native.Nat.{◌-◌}
 use native.Mathlib.Nat.{zero-lt-suc}
 use native.Mathlib.Omega.{arith}
-use borrow.Author.Rules.{rules}
-use Rattle.detectors.proofs.LawsHeld.{Gathering, start, next_fits, next, finish}
+use Rattle.detectors.proofs.LawsHeld.{start, next_fits, next, finish}
 use Rattle.detectors.proofs.gather.Goals as goal
 
 pub loop-i-init : goal.loop-i-init

@@ -1,10 +1,7 @@
 -- `detectors::gather` meets its contract: the number spells the bytes that were taken.
 -- Assumes nothing.
 use Prim.Native.Nat.{◌-◌}
-use native.Mathlib.Nat.{zero-lt-suc}
-use native.Mathlib.Omega.{arith}
-use borrow.Author.Rules.{rules}
-use Rattle.detectors.proofs.LawsHeld.{Gathering, start, next_fits, next, finish}
+use Rattle.detectors.proofs.LawsHeld.{Gathering}
 use Rattle.detectors.proofs.gather.Given as goal
 
 abbrev pub invariant-loop-i : goal.invariant-loop-i

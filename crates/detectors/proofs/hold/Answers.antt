@@ -1,7 +1,6 @@
 -- `detectors::hold` meets its contract: the two numbers spell the ten bytes, but for the last 4 bits.
 -- Assumes nothing.
 use native.Mathlib.Omega.{arith}
-use borrow.Author.Rules.{rules}
 use Rattle.detectors.proofs.LawsHeld.{held_bits}
 use Rattle.detectors.proofs.hold.Goals as goal
 

@@ -1,7 +1,6 @@
 -- `detectors::place_at` meets its contract.
 -- Assumes nothing.
 use mathlib.Core.Path.{refl}
-use borrow.Author.Rules.{rules}
 use borrow.Author.Tests.{lt-ltb, le-ltb}
 use Rattle.ground.proofs.LawsChoice.{yes, no}
 use Rattle.detectors.specs.Status.{place_at}

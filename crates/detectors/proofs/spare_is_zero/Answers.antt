@@ -2,7 +2,6 @@
 -- Assumes nothing.
 use mathlib.Core.Path.{sym}
 use native.Mathlib.Omega.{arith}
-use borrow.Author.Rules.{rules}
 use Rattle.detectors.proofs.LawsHeld.{spare_bits}
 use Rattle.detectors.proofs.spare_is_zero.Goals as goal
 

@@ -1,7 +1,6 @@
 -- `detectors::suspects_of` meets its contract: what is counted of the two numbers is so of the detectors' bits.
 -- Assumes nothing.
 use mathlib.Core.Path.{ap, sym, ◌∙◌}
-use borrow.Author.Rules.{rules}
 use Rattle.detectors.specs.Status.{set_in, before_set, place_at, suspects_of}
 use Rattle.detectors.proofs.suspects_of.Goals as goal
 

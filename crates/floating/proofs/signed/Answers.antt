@@ -1,7 +1,6 @@
 -- `floating::signed` meets its contract: by the fraction's first digit, then by the sign.
 -- Assumes nothing.
 use native.Mathlib.Omega.{arith}
-use borrow.Author.Rules.{rules}
 use mathlib.Core.Path.{sym, ap, ◌∙◌}
 use mathlib.Core.Bool.{Bool, true, false}
 use lib.Ieee.{neg}

@@ -1,6 +1,5 @@
 -- `floating::unsigned` meets its contract: the pattern is a number's, and the product is exact.
 -- Assumes nothing.
-use borrow.Author.Rules.{rules}
 use native.Mathlib.Omega.{arith}
 use Rattle.floating.proofs.LawsExact.{product}
 use Rattle.floating.proofs.LawsPower.{power_is_a_number}

@@ -1,6 +1,5 @@
 -- `floating::value_of` meets its contract: 0.0 is the pattern of zeros.
 -- Assumes nothing.
-use borrow.Author.Rules.{rules}
 use mathlib.Core.Path.{sym, ap}
 use lib.Ieee.{of_bits}
 use Rattle.floating.specs.Cases.{value_of}

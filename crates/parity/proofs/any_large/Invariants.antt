@@ -1,15 +1,11 @@
 -- `parity::any_large` meets its contract: its loop is a fold by `or`.
 -- Assumes nothing.
-use mathlib.Core.Path.{refl}
 use mathlib.Core.Bool.{false, ◌||◌}
 use mathlib.Core.List.{foldl}
 use Prim.Native.Nat.{◌-◌}
-use native.Mathlib.Omega.{arith}
-use borrow.Author.Rules.{rules}
 use lib.Dec.{ltb}
 use lib.ListN.{length}
-use Rattle.ground.proofs.LawsWalk.{Walking, start, step, finish}
-use Rattle.parity.specs.Words.{any_large}
+use Rattle.ground.proofs.LawsWalk.{Walking}
 use Rattle.parity.proofs.any_large.Given as goal
 
 abbrev pub invariant-loop-i : goal.invariant-loop-i

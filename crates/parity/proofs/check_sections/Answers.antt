@@ -1,7 +1,6 @@
 -- `parity::check_sections` meets its contract: a refusal is that of `ground_of`, and past it the block has 8,040 words.
 -- Assumes nothing.
 use mathlib.Core.Path.{sym, ap, ◌∙◌}
-use borrow.Author.Rules.{rules}
 use Rattle.parity.specs.declared.Layout.TheVariants.{ImagerSpacelook, SounderSpacelook}
 use Rattle.parity.specs.Sections.{judged_as, refused_by}
 use Rattle.parity.proofs.LawsSections.{accepts, refuses}

@@ -2,7 +2,6 @@
 -- Assumes nothing.
 use mathlib.Core.Path.{sym}
 use borrow.Author.Tests.{eq-eqb, ne_eqb}
-use borrow.Author.Rules.{rules}
 use Rattle.parity.specs.Words.{block_words, ground_of}
 use Rattle.parity.proofs.ground_of.Goals as goal
 

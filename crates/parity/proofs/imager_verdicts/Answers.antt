@@ -2,7 +2,6 @@
 -- Assumes nothing.
 use mathlib.Core.List.{[], ◌∷◌}
 use native.Mathlib.Omega.{arith}
-use borrow.Author.Rules.{rules}
 use Rattle.parity.proofs.imager_verdicts.Goals as goal
 
 pub section_holds-requires : goal.section_holds-requires

@@ -1,13 +1,8 @@
 -- `parity::parity_of` meets its contract: its loop is a fold by exclusive or.
 -- Assumes nothing.
 use mathlib.Core.Path.{refl}
-use mathlib.Core.List.{foldl}
-use Prim.Native.Nat.{◌-◌}
 use native.Mathlib.Omega.{arith}
-use borrow.Author.Rules.{rules}
-use lib.Bits.{bit_xor}
-use lib.ListN.{length}
-use Rattle.ground.proofs.LawsWalk.{Walking, start, step, finish}
+use Rattle.ground.proofs.LawsWalk.{start, step, finish}
 use Rattle.parity.specs.Sections.{xor_of}
 use Rattle.parity.proofs.parity_of.Goals as goal
 

@@ -1,9 +1,7 @@
 -- `placement::place` meets its contract: the tests in their order, and a block that is neither infrared nor visible has no record.
 -- Assumes nothing.
 use mathlib.Core.Path.{◌≡◌, sym, ◌∙◌}
-use mathlib.Core.Logic.{⊎_elim}
 use native.Mathlib.Omega.{arith}
-use borrow.Author.Rules.{rules}
 use Rattle.placement.specs.Placement.{records_held}
 use Rattle.placement.proofs.KeepsPlacement.{every_version}
 use Rattle.placement.proofs.LawsPlacement.{unknown_block, unknown_version, absent}

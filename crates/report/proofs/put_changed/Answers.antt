@@ -7,7 +7,6 @@ use native.Mathlib.Omega.{arith}
 use Rattle.text.specs.Texts.{ended}
 use Rattle.text.proofs.LawsPut.{put_as}
 use Rattle.report.proofs.LawsChanged.{changed_0, changed_1, changed_2, changed_3, changed_4, changed_5, changed_6, changed_7}
-use borrow.Author.Rules.{rules}
 use Rattle.report.proofs.put_changed.Goals as goal
 
 line : {xs ys : List ℕ} → xs ≡ ys → ended xs 0x0A ≡ ended ys 0x0A

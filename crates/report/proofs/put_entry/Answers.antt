@@ -6,7 +6,6 @@ use lib.ListN.{replicate}
 use lib.Seq.{length-take-le}
 use Rattle.text.proofs.LawsPut.{Put, into}
 use Rattle.report.specs.Texts.{entry_text}
-use borrow.Author.Rules.{rules}
 use Rattle.report.proofs.put_entry.Goals as goal
 
 pub slice_bounds-put_text-end : goal.slice_bounds-put_text-end

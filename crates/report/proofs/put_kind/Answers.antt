@@ -8,7 +8,6 @@ use borrow.Author.Tests.{eq-eqb, ne_eqb}
 use Rattle.ground.proofs.LawsChoice.{yes, no}
 use Rattle.text.specs.Texts.{bytes_of, ended}
 use Rattle.text.proofs.LawsPut.{put_as}
-use borrow.Author.Rules.{rules}
 use Rattle.report.proofs.put_kind.Goals as goal
 
 pub returns-then-found-eq-SPAN : goal.returns-then-found-eq-SPAN

@@ -9,7 +9,6 @@ use lib.Seq.{length-take-le}
 use Rattle.text.specs.Texts.{bytes_of}
 use Rattle.text.proofs.LawsPut.{nothing, more, more_column, into}
 use Rattle.report.specs.Texts.{last_text}
-use borrow.Author.Rules.{rules}
 use Rattle.report.proofs.put_last.Goals as goal
 
 pub slice_bounds-put_text-end : goal.slice_bounds-put_text-end

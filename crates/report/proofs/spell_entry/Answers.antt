@@ -5,7 +5,6 @@ use Rattle.text.specs.Texts.{ended}
 use Rattle.text.proofs.LawsPut.{nothing, more, more_column, as_text}
 use Rattle.report.specs.Texts.{kind_text, changed_text}
 use Rattle.report.proofs.LawsTexts.{entry_columns, kind_short, changed_short}
-use borrow.Author.Rules.{rules}
 use Rattle.report.proofs.spell_entry.Goals as goal
 
 pub returns : goal.returns

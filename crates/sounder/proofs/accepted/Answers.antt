@@ -1,10 +1,7 @@
 -- `sounder::accepted` meets its contract, part by part.
 -- Assumes nothing.
 use mathlib.Core.Path.{ap, ◌∙◌}
-use mathlib.Core.List.{List}
-use Prim.Native.Nat.{ℕ}
 use Rattle.detectors.specs.Status.{suspects_of}
-use borrow.Author.Rules.{rules}
 use Rattle.sounder.proofs.accepted.Goals as goal
 
 pub returns : goal.returns

@@ -7,11 +7,10 @@ use Prim.Native.Nat.{ℕ}
 use borrow.Author.Tests.{eq-eqb, ne_eqb}
 use Rattle.ground.proofs.LawsChoice.{yes, no}
 use Rattle.detectors.specs.Status as Detectors
-use Rattle.sounder.specs.Judging.{refusal_of, asked_of}
+use Rattle.sounder.specs.Judging.{asked_of}
 use Rattle.sounder.specs.declared.Refusal.{Refusal}
 use Rattle.sounder.specs.declared.Asked.{Asked}
 use Rattle.sounder.proofs.LawsJudging.{words_taken}
-use borrow.Author.Rules.{rules}
 use Rattle.sounder.proofs.ask.Goals as goal
 
 pub returns-then-why-ne-ACCEPTED : goal.returns-then-why-ne-ACCEPTED

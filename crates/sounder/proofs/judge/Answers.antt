@@ -3,10 +3,9 @@
 use mathlib.Core.Path.{refl, sym, ap, ◌∙◌}
 use borrow.Author.Tests.{eq-eqb, ne_eqb}
 use Rattle.ground.proofs.LawsChoice.{yes, no}
-use Rattle.sounder.specs.Judging.{refused_as, refusal_of, status_of}
+use Rattle.sounder.specs.Judging.{refused_as, status_of}
 use Rattle.sounder.specs.declared.Refusal.{Refusal}
 use Rattle.sounder.proofs.LawsJudging.{words_taken}
-use borrow.Author.Rules.{rules}
 use Rattle.sounder.proofs.judge.Goals as goal
 
 pub returns-then-why-ne-ACCEPTED : goal.returns-then-why-ne-ACCEPTED

@@ -5,7 +5,6 @@ use mathlib.Core.List.{List}
 use lib.ListN.{replicate}
 use Rattle.tag.specs.declared.Tag.{Tag}
 use Rattle.tag.specs.declared.TagRead.{TagRead}
-use borrow.Author.Rules.{rules}
 use Rattle.sounder.proofs.no_tags.Goals as goal
 
 pub returns : goal.returns

@@ -2,7 +2,6 @@
 -- Assumes nothing.
 use lib.ListN.{replicate}
 use Rattle.detectors.specs.declared.First.TheVariants.{Nobody}
-use borrow.Author.Rules.{rules}
 use Rattle.sounder.proofs.refused.Goals as goal
 
 pub returns : goal.returns

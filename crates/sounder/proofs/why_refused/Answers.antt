@@ -1,14 +1,9 @@
 -- `sounder::why_refused` meets its contract: its tests are those of the definition, in their order.
 -- Assumes nothing.
-use mathlib.Core.Path.{◌≡◌, sym, ap, ◌∙◌}
-use mathlib.Core.Bool.{true, false}
-use borrow.Author.Tests.{not-true, not-false}
-use Rattle.parity.specs.Words.{ground_of}
+use mathlib.Core.Path.{sym, ap, ◌∙◌}
 use Rattle.detectors.specs.Status.{spare_zero}
-use Rattle.sounder.specs.Words.{status_in}
-use Rattle.sounder.specs.Frame.{frame_of, first_out}
+use Rattle.sounder.specs.Frame.{first_out}
 use Rattle.sounder.proofs.LawsJudging.{bad_words, spare_set, field_out, bad_list, none}
-use borrow.Author.Rules.{rules}
 use Rattle.sounder.proofs.why_refused.Goals as goal
 
 pub returns-then-number-ne-ACCEPTED : goal.returns-then-number-ne-ACCEPTED

@@ -3,7 +3,6 @@
 use mathlib.Core.Path.{sym, ap, subst}
 use Prim.Native.Nat.{◌<◌}
 use native.Mathlib.Omega.{arith}
-use borrow.Author.Rules.{rules}
 use Rattle.parity.specs.declared.Layout.{Layout}
 use Rattle.spacelook.specs.Arrays.{array_at, size_of}
 use Rattle.spacelook.proofs.array_at.Goals as goal

@@ -1,14 +1,14 @@
 -- `spacelook::fill` meets its contract: after k turns the numbers of the first k arrays stand at the front of the rooms.
 -- Assumes nothing.
-use mathlib.Core.Path.{◌≡◌, refl, sym, ap, subst}
-use Prim.Native.Nat.{ℕ, ◌-◌, ◌≤◌, ◌<◌}
+use mathlib.Core.Path.{refl, sym, ap, subst}
+use Prim.Native.Nat.{ℕ, ◌≤◌, ◌<◌}
 use native.Mathlib.Omega.{arith}
-use lib.ListN.{length, take}
+use lib.ListN.{length}
 use Rattle.floating.specs.Cases.{case_of, value_of}
 use Rattle.spacelook.specs.declared.Size.{Size}
-use Rattle.spacelook.specs.Arrays.{arrays_in, numbers_in, size_of, Inside}
+use Rattle.spacelook.specs.Arrays.{arrays_in, size_of, Inside}
 use Rattle.spacelook.proofs.LawsArrays.{inside}
-use Rattle.spacelook.proofs.LawsNumbers.{Fronted, none_fronted, one_fronted, all_fronted, numbers_more, room_for_one}
+use Rattle.spacelook.proofs.LawsNumbers.{none_fronted, one_fronted, all_fronted, numbers_more, room_for_one}
 use Rattle.spacelook.proofs.fill.Goals as goal
 
 pub size_of-arrays-requires : goal.size_of-arrays-requires

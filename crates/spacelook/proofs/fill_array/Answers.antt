@@ -2,12 +2,12 @@
 -- Assumes nothing.
 use mathlib.Core.Path.{◌≡◌, ap, ◌∙◌}
 use mathlib.Core.List.{map}
-use Prim.Native.Nat.{◌-◌, ◌≤◌, ◌<◌}
+use Prim.Native.Nat.{◌<◌}
 use native.Mathlib.Omega.{arith}
 use Rattle.floating.specs.Floating.{reading_of}
 use Rattle.floating.specs.Cases.{case_of, value_of}
 use Rattle.spacelook.specs.Numbers.{number_at, readings_in}
-use Rattle.spacelook.proofs.LawsNumbers.{Laid, none_laid, one_laid, all_laid}
+use Rattle.spacelook.proofs.LawsNumbers.{none_laid, one_laid, all_laid}
 use Rattle.spacelook.proofs.fill_array.Goals as goal
 
 pub loop-k-init : goal.loop-k-init

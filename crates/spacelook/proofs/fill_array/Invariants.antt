@@ -1,13 +1,10 @@
 -- `spacelook::fill_array` meets its contract: after k turns the first k numbers stand in one room, and their cases in the other.
 -- Assumes nothing.
-use mathlib.Core.Path.{◌≡◌, ap, ◌∙◌}
 use mathlib.Core.List.{map}
-use Prim.Native.Nat.{◌-◌, ◌≤◌, ◌<◌}
-use native.Mathlib.Omega.{arith}
-use Rattle.floating.specs.Floating.{reading_of}
+use Prim.Native.Nat.{◌-◌, ◌≤◌}
 use Rattle.floating.specs.Cases.{case_of, value_of}
-use Rattle.spacelook.specs.Numbers.{number_at, readings_in}
-use Rattle.spacelook.proofs.LawsNumbers.{Laid, none_laid, one_laid, all_laid}
+use Rattle.spacelook.specs.Numbers.{readings_in}
+use Rattle.spacelook.proofs.LawsNumbers.{Laid}
 use Rattle.spacelook.proofs.fill_array.Given as goal
 
 abbrev pub invariant-loop-k : goal.invariant-loop-k

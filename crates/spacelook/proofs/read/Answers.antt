@@ -3,7 +3,6 @@
 use mathlib.Core.Path.{◌≡◌, sym, ap, ◌∙◌, subst}
 use Prim.Native.Nat.{◌<◌, ◌≤◌}
 use native.Mathlib.Omega.{arith}
-use borrow.Author.Rules.{rules}
 use Rattle.parity.specs.Words.{ground_of}
 use Rattle.floating.specs.Floating.{reading_of}
 use Rattle.spacelook.specs.declared.Array.{Array}

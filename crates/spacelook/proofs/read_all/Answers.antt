@@ -4,7 +4,6 @@ use mathlib.Core.Path.{◌≡◌, refl, sym, ap, ◌∙◌, subst}
 use Prim.Native.Nat.{◌<◌, ◌≤◌}
 use native.Mathlib.Omega.{arith}
 use lib.ListN.{length}
-use borrow.Author.Rules.{rules}
 use Rattle.parity.specs.Words.{ground_of}
 use Rattle.spacelook.specs.declared.Size.{Size}
 use Rattle.spacelook.specs.Arrays.{size_of}

@@ -4,7 +4,6 @@ use mathlib.Core.Path.{◌≡◌, sym, ap, ◌∙◌, subst}
 use Prim.Native.Nat.{◌<◌, ◌≤◌}
 use native.Mathlib.Omega.{arith}
 use lib.ListN.{length}
-use borrow.Author.Rules.{rules}
 use Rattle.spacelook.specs.declared.Size.{Size}
 use Rattle.spacelook.specs.Arrays.{arrays_in, row_of}
 use Rattle.spacelook.proofs.LawsArrays.{no_field, field_at, no_more_fields}

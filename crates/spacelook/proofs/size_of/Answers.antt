@@ -1,7 +1,6 @@
 -- `spacelook::size_of` meets its contract: the counts of the two tables, by computing.
 -- Assumes nothing.
 use mathlib.Core.Path.{sym, ap}
-use borrow.Author.Rules.{rules}
 use Rattle.spacelook.specs.Arrays.{size_of}
 use Rattle.spacelook.proofs.size_of.Goals as goal
 

@@ -1,6 +1,5 @@
 -- `tag::in_bounds` makes the definition's row of tests.
 -- Assumes nothing.
-use borrow.Author.Rules.{rules}
 use Rattle.tag.specs.Tags.{in_bounds}
 use Rattle.tag.proofs.in_bounds.Goals as goal
 

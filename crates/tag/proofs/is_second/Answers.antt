@@ -2,8 +2,7 @@
 -- Assumes nothing.
 use mathlib.Core.Path.{sym, ◌∙◌}
 use mathlib.Core.Bool.{◌&&◌, ◌||◌}
-use borrow.Author.Rules.{rules}
-use borrow.Author.Tests.{le-leb, lt-leb, not-true, not-false}
+use borrow.Author.Tests.{le-leb, lt-leb}
 use Rattle.calendar.specs.Leaps.{day_of, listed}
 use Rattle.tag.specs.Tags.{ends_day, good_second}
 use Rattle.tag.proofs.is_second.Goals as goal

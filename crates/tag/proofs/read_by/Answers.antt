@@ -1,7 +1,6 @@
 -- `tag::read_by` hands eight bytes on one by one, and refuses any other number of them.
 -- Assumes nothing.
 use mathlib.Core.Path.{sym, ◌∙◌}
-use borrow.Author.Rules.{rules}
 use Rattle.tag.proofs.LawsTags.{eight, not_eight, refuses}
 use Rattle.tag.proofs.read_by.Goals as goal
 

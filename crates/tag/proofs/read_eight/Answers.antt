@@ -2,7 +2,6 @@
 -- Assumes nothing.
 use mathlib.Core.Path.{refl, ◌∙◌}
 use mathlib.Core.List.{[], ◌∷◌}
-use borrow.Author.Rules.{rules}
 use Rattle.tag.proofs.LawsTags.{takes_eight, refuses_eight}
 use Rattle.tag.proofs.read_eight.Goals as goal
 

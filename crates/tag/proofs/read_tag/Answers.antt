@@ -1,6 +1,5 @@
 -- `tag::read_tag` tests the list before it reads, as the definition does.
 -- Assumes nothing.
-use borrow.Author.Rules.{rules}
 use Rattle.ground.proofs.LawsChoice.{yes, no}
 use Rattle.tag.specs.Tags.{read_tag}
 use Rattle.tag.proofs.read_tag.Goals as goal

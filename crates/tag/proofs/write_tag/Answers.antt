@@ -4,8 +4,6 @@ use mathlib.Core.Path.{ap, sym, ◌∙◌}
 use mathlib.Core.Bool.{not}
 use mathlib.Core.List.{List}
 use Prim.Native.Nat.{ℕ}
-use borrow.Author.Rules.{rules}
-use borrow.Author.Tests.{not-false}
 use Rattle.ground.proofs.LawsChoice.{yes, no}
 use Rattle.tag.specs.Tags.{write_tag}
 use Rattle.tag.proofs.LawsTags.{written}

@@ -4,7 +4,6 @@ use mathlib.Core.Path.{ap}
 use native.Mathlib.Omega.{arith}
 use lib.ListN.{length}
 use Rattle.text.proofs.LawsPut.{column_fits, column_part, put_as}
-use borrow.Author.Rules.{rules}
 use Rattle.text.proofs.put_column.Goals as goal
 
 pub returns : goal.returns

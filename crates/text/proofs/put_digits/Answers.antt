@@ -5,7 +5,7 @@ use Prim.Native.Nat.{◌-◌}
 use native.Mathlib.Omega.{arith}
 use lib.ListN.{length-set}
 use Rattle.text.specs.Texts.{digit}
-use Rattle.text.proofs.LawsDecimal.{Digits, start, placed, turn, finish}
+use Rattle.text.proofs.LawsDecimal.{start, placed, turn, finish}
 use Rattle.text.proofs.put_digits.Goals as goal
 
 pub bounds-column-20 : goal.bounds-column-20

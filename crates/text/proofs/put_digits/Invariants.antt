@@ -1,11 +1,6 @@
 -- `text::put_digits` meets its contract: at every turn what is put stands behind the digits of the rest.
 -- Assumes nothing.
-use mathlib.Core.Path.{sym, ◌∙◌}
-use Prim.Native.Nat.{◌-◌}
-use native.Mathlib.Omega.{arith}
-use lib.ListN.{length-set}
-use Rattle.text.specs.Texts.{digit}
-use Rattle.text.proofs.LawsDecimal.{Digits, start, placed, turn, finish}
+use Rattle.text.proofs.LawsDecimal.{Digits}
 use Rattle.text.proofs.put_digits.Given as goal
 
 abbrev pub invariant-loop-rest : goal.invariant-loop-rest

@@ -1,7 +1,6 @@
 -- `text::put_text` meets its contract: what `lay` answers decides.
 -- Assumes nothing.
 use mathlib.Core.Path.{refl}
-use borrow.Author.Rules.{rules}
 use Rattle.ground.proofs.LawsChoice.{yes, no}
 use Rattle.text.proofs.put_text.Goals as goal
 

@@ -1,7 +1,6 @@
 -- `time::between` subtracts two counts below 2 ^ 62, so the difference is exact.
 -- Assumes nothing.
 use mathlib.Core.Path.{◌∙◌}
-use borrow.Author.Rules.{rules}
 use Rattle.time.proofs.LawsTimes.{fits, exact}
 use Rattle.time.proofs.between.Goals as goal
 

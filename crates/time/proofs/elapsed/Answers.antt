@@ -4,8 +4,7 @@ use mathlib.Core.Path.{ap, sym, ◌∙◌}
 use lib.IntN.{ℤ}
 use mir.Syntax.{w64}
 use mir.Facts.{to_z-of_z}
-use borrow.Author.Rules.{rules, sfits_of}
-use borrow.Author.Tests.{not-true, not-false}
+use borrow.Author.Rules.{sfits_of}
 use Rattle.calendar.proofs.LawsLists.{all_first}
 use Rattle.tag.specs.Tags.{good_tag}
 use Rattle.time.specs.Times.{between}

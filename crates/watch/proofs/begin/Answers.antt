@@ -1,7 +1,6 @@
 -- `watch::begin` picks by the limit, as the definition does.
 -- Assumes nothing.
 use mathlib.Core.Path.{ap}
-use borrow.Author.Rules.{rules}
 use Rattle.ground.proofs.LawsChoice.{yes, no}
 use Rattle.watch.specs.Rules.{begin_of}
 use Rattle.watch_bounds.specs.declared.Watch.{Watch}

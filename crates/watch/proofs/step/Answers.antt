@@ -4,8 +4,7 @@
 use mathlib.Core.Path.{◌≡◌, ap, sym, ◌∙◌}
 use Prim.Native.Nat.{ℕ}
 use lib.Dec.{eqb}
-use borrow.Author.Rules.{rules}
-use borrow.Author.Tests.{eqb-false, not-true}
+use borrow.Author.Tests.{eqb-false}
 use Rattle.ground.specs.Choice.{pick}
 use Rattle.ground.proofs.LawsGrounds.{accepts, refuses}
 use Rattle.calendar.proofs.LawsLists.{short}

@@ -5,7 +5,6 @@ use Prim.Native.Nat.{ℕ, ◌*◌, ◌%◌, ◌^◌, ◌≤◌}
 use native.Mathlib.Omega.{arith}
 use mathlib.Core.Bool.{not}
 use lib.Dec.{ltb}
-use borrow.Author.Rules.{rules}
 use Rattle.watch_bounds.proofs.LawsBounds.{bounding_to_ten}
 use Rattle.watch_bounds.proofs.LawsSets.{moved}
 use Rattle.watch_bounds.proofs.bad_fill.Goals as goal

@@ -1,6 +1,5 @@
 -- `watch_bounds::bad_last` asks `tag::in_bounds` of the last tag, and counts it only when the watch is open.
 -- Assumes nothing.
-use borrow.Author.Rules.{rules}
 use Rattle.watch_bounds.proofs.bad_last.Goals as goal
 
 pub returns : goal.returns

@@ -1,7 +1,6 @@
 -- `watch_bounds::offered` tests the block, then the tag: each return is the first ground that holds.
 -- Assumes nothing.
 use mathlib.Core.Path.{refl}
-use borrow.Author.Rules.{rules}
 use Rattle.ground.proofs.LawsChoice.{yes, no}
 use mathlib.Core.Path.{ap}
 use mathlib.Core.Bool.{not}

@@ -4,7 +4,6 @@ use native.Mathlib.Omega.{arith}
 use lib.Signed.{lt_z}
 use mir.Syntax.{w64}
 use mir.Facts.{to_z_pos, to_z-of_z}
-use borrow.Author.Rules.{rules}
 use Rattle.watch_rule.proofs.is_late.Goals as goal
 
 pub returns : goal.returns

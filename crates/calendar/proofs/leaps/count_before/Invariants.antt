@@ -1,10 +1,8 @@
 -- `calendar::leaps::count_before` walks the list: what is counted so far and what the rest adds is the count of the whole.
 -- Assumes nothing.
 use Prim.Native.Nat.{◌-◌}
-use native.Mathlib.Omega.{arith}
 use lib.ListN.{length}
-use borrow.Author.Rules.{rules}
-use Rattle.calendar.proofs.LawsLeaps.{Counting, count_start, count_next, counted}
+use Rattle.calendar.proofs.LawsLeaps.{Counting}
 use Rattle.calendar.proofs.leaps.count_before.Given as goal
 
 abbrev pub invariant-loop-i : goal.invariant-loop-i

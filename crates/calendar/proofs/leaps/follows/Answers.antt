@@ -1,6 +1,5 @@
 -- `calendar::leaps::follows` asks both, as the definition does.
 -- Assumes nothing.
-use borrow.Author.Rules.{rules}
 use Rattle.calendar.proofs.leaps.follows.Goals as goal
 
 pub returns : goal.returns

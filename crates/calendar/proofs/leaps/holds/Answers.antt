@@ -1,11 +1,8 @@
 -- `calendar::leaps::holds` walks the list: what is found so far, or in the rest, is what is found in the whole.
 -- Assumes nothing.
-use Prim.Native.Nat.{◌-◌}
 use native.Mathlib.Omega.{arith}
-use lib.ListN.{length}
-use borrow.Author.Rules.{rules}
 use Rattle.ground.proofs.LawsWalk.{start}
-use Rattle.calendar.proofs.LawsLeaps.{Finding, find_next, found_all}
+use Rattle.calendar.proofs.LawsLeaps.{find_next, found_all}
 use Rattle.calendar.proofs.leaps.holds.Goals as goal
 
 pub loop-i-init : goal.loop-i-init

@@ -3,7 +3,6 @@
 use mathlib.Core.Path.{sym, ◌∙◌}
 use mathlib.Core.Bool.{◌&&◌}
 use lib.ListN.{length}
-use borrow.Author.Rules.{rules}
 use borrow.Author.Tests.{lt-leb, le-leb}
 use Rattle.calendar.specs.Leaps.{most_leaps, rises_from, good_list}
 use Rattle.calendar.proofs.leaps.is_good_list.Goals as goal

@@ -1,7 +1,6 @@
 -- `calendar::leaps::is_listed` looks for the day's number.
 -- Assumes nothing.
 use mathlib.Core.Path.{ap, ◌∙◌}
-use borrow.Author.Rules.{rules}
 use Rattle.calendar.specs.Leaps.{listed}
 use Rattle.calendar.proofs.leaps.is_listed.Goals as goal
 

@@ -4,7 +4,6 @@ use mathlib.Core.Path.{sym, ap}
 use Prim.Native.Nat.{ℕ, ◌/◌, ◌%◌}
 use mathlib.Core.Bool.{Bool, ◌&&◌}
 use lib.Dec.{leb}
-use borrow.Author.Rules.{rules}
 use borrow.Author.Tests.{lt-leb, le-leb}
 use Rattle.calendar.specs.Years.{days_in}
 use Rattle.calendar.specs.Leaps.{possible}

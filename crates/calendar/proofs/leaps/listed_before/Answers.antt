@@ -3,7 +3,6 @@
 use mathlib.Core.Path.{sym}
 use native.Mathlib.Omega.{arith}
 use lib.Seq.{length-take-le}
-use borrow.Author.Rules.{rules}
 use Rattle.calendar.proofs.LawsLeaps.{among_first, among_all}
 use Rattle.calendar.proofs.leaps.listed_before.Goals as goal
 

@@ -1,7 +1,6 @@
 -- `calendar::leaps::one_before` picks by `counts_for`, as the definition does.
 -- Assumes nothing.
 use mathlib.Core.Path.{refl}
-use borrow.Author.Rules.{rules}
 use Rattle.ground.proofs.LawsChoice.{yes, no}
 use Rattle.calendar.proofs.leaps.one_before.Goals as goal
 

@@ -1,12 +1,8 @@
 -- `calendar::leaps::rises` walks the list: where the days so far rise, the rest decides.
 -- Assumes nothing.
 use Prim.Native.Nat.{◌-◌}
-use native.Mathlib.Omega.{arith}
 use lib.ListN.{length}
-use borrow.Author.Rules.{rules}
-use borrow.Author.Tests.{not-true, not-false}
-use Rattle.ground.proofs.LawsWalk.{start}
-use Rattle.calendar.proofs.LawsLeaps.{Rising, rise_next, falls, risen}
+use Rattle.calendar.proofs.LawsLeaps.{Rising}
 use Rattle.calendar.proofs.leaps.rises.Given as goal
 
 abbrev pub invariant-loop-i : goal.invariant-loop-i

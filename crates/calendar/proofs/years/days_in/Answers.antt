@@ -1,7 +1,6 @@
 -- `calendar::years::days_in` picks by `is_leap`, as the definition does.
 -- Assumes nothing.
 use mathlib.Core.Path.{refl}
-use borrow.Author.Rules.{rules}
 use Rattle.ground.proofs.LawsChoice.{yes, no}
 use Rattle.calendar.proofs.years.days_in.Goals as goal
 

@@ -1,9 +1,7 @@
 -- `sounder::frame::first_out` meets its contract: what is left of the table decides.
 -- Assumes nothing.
 use mathlib.Core.Path.{sym, ◌∙◌}
-use Prim.Native.Nat.{◌-◌}
-use borrow.Author.Rules.{rules}
-use Rattle.sounder.proofs.LawsFrame.{Looking, start, found, next, finish}
+use Rattle.sounder.proofs.LawsFrame.{start, found, next, finish}
 use Rattle.sounder.proofs.frame.first_out.Goals as goal
 
 pub loop-i-init : goal.loop-i-init

@@ -1,7 +1,6 @@
 -- `sounder::frame::frame_of` meets its contract: each field is its row's.
 -- Assumes nothing.
 use mathlib.Core.List.{[], ◌∷◌}
-use borrow.Author.Rules.{rules}
 use Rattle.sounder.proofs.frame.frame_of.Goals as goal
 
 pub returns : goal.returns

@@ -5,7 +5,6 @@ use mathlib.Core.Bool.{Bool, ◌&&◌, ◌||◌}
 use lib.Dec.{eqb, ltb}
 use lib.ListN.{get_or}
 use Rattle.sounder.specs.Frame.{western, eastern}
-use borrow.Author.Rules.{rules}
 use Rattle.sounder.proofs.frame.is_out.Goals as goal
 
 pub returns : goal.returns

@@ -6,7 +6,6 @@ use native.Mathlib.Nat.{mod-eq_of_lt}
 use native.Mathlib.Omega.{arith}
 use lib.ListN.{get_or}
 use Rattle.parity.proofs.LawsWords.{right_length, small_words}
-use borrow.Author.Rules.{rules}
 use Rattle.sounder.proofs.words.number_at.Goals as goal
 
 pub bounds-words-k : goal.bounds-words-k

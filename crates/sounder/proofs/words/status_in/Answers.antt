@@ -3,7 +3,6 @@
 use native.Mathlib.Omega.{arith}
 use Rattle.parity.proofs.LawsWords.{right_length, small_words}
 use Rattle.sounder.proofs.LawsWords.{part_long, part_small}
-use borrow.Author.Rules.{rules}
 use Rattle.sounder.proofs.words.status_in.Goals as goal
 
 pub slice_bounds-lower-end : goal.slice_bounds-lower-end

@@ -1,14 +1,12 @@
 -- `sounder::words::tag_at` meets its contract: the eight words are there, and are bytes.
 -- Assumes nothing.
 use mathlib.Core.Path.{◌≡◌, ap, ap₂, ◌∙◌}
-use mathlib.Core.List.{List}
 use Prim.Native.Nat.{ℕ, ◌+◌, ◌-◌, ◌*◌, ◌≤◌}
 use native.Mathlib.Omega.{arith}
 use lib.ListN.{take, drop}
 use Rattle.parity.proofs.LawsWords.{right_length, small_words}
 use Rattle.tag.specs.Tags.{read_by}
 use Rattle.sounder.proofs.LawsWords.{part_long, part_small}
-use borrow.Author.Rules.{rules}
 use Rattle.sounder.proofs.words.tag_at.Goals as goal
 
 pub slice_bounds-lower-end : goal.slice_bounds-lower-end

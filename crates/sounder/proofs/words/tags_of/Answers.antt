@@ -2,7 +2,6 @@
 -- Assumes nothing.
 use mathlib.Core.List.{[], ◌∷◌}
 use lib.Dec.{lit<}
-use borrow.Author.Rules.{rules}
 use Rattle.sounder.proofs.words.tags_of.Goals as goal
 
 pub tag_at-requires-9 : goal.tag_at-requires-9

@@ -1,6 +1,5 @@
 -- `tag::digits::are_decimal` tests the digits of eight bytes: its row of tests is the definition's, byte by byte.
 -- Assumes nothing.
-use borrow.Author.Rules.{rules}
 use Rattle.tag.proofs.LawsTags.{all_bcd}
 use Rattle.tag.proofs.digits.are_decimal.Goals as goal
 

@@ -1,6 +1,5 @@
 -- `tag::digits::tag_of` takes the numbers and the mark out of eight bytes: each field is its digits' value.
 -- Assumes nothing.
-use borrow.Author.Rules.{rules}
 use Rattle.tag.proofs.LawsTags.{says}
 use Rattle.tag.proofs.digits.tag_of.Goals as goal
 

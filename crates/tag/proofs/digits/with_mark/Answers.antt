@@ -1,7 +1,6 @@
 -- `tag::digits::with_mark` adds the mark's bit where there is a mark.
 -- Assumes nothing.
 use native.Mathlib.Omega.{arith}
-use borrow.Author.Rules.{rules}
 use Rattle.tag.proofs.digits.with_mark.Goals as goal
 
 pub returns-then-flywheel : goal.returns-then-flywheel

@@ -1,6 +1,5 @@
 -- `time::count::days_before` computes the quick formula, which is the count year by year.
 -- Assumes nothing.
-use borrow.Author.Rules.{rules}
 use Rattle.time.proofs.LawsYears.{quick}
 use Rattle.time.proofs.count.days_before.Goals as goal
 

@@ -1,7 +1,6 @@
 -- `time::count::milliseconds` adds a second for each listed day before; no sum is too large.
 -- Assumes nothing.
 use native.Mathlib.Omega.{arith}
-use borrow.Author.Rules.{rules}
 use Rattle.time.specs.Times.{time_of}
 use Rattle.time.proofs.count.milliseconds.Goals as goal
 

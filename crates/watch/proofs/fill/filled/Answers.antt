@@ -8,7 +8,6 @@ use native.Mathlib.Omega.{arith}
 use lib.Pow.{pow_mono}
 use mir.Syntax.{w32}
 use mir.Val.{Fits}
-use borrow.Author.Rules.{rules}
 use Rattle.ground.proofs.LawsChoice.{yes, no}
 use Rattle.watch_bounds.proofs.LawsSets.{moved, grown}
 use Rattle.watch.specs.Fills.{filled}

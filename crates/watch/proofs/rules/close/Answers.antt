@@ -2,7 +2,6 @@
 -- Assumes nothing.
 use mathlib.Core.Path.{ap, ◌∙◌}
 use lib.Count.{ones}
-use borrow.Author.Rules.{rules}
 use Rattle.watch.specs.declared.Verdict.TheVariants.{Closed}
 use Rattle.watch.proofs.rules.close.Goals as goal
 

@@ -1,7 +1,6 @@
 -- `watch::rules::handed` adds block 10 to the set of a completed scan, and gives any other as it is.
 -- Assumes nothing.
 use native.Mathlib.Omega.{arith}
-use borrow.Author.Rules.{rules}
 use Rattle.watch.proofs.rules.handed.Goals as goal
 
 pub filled-requires : goal.filled-requires

@@ -1,6 +1,5 @@
 -- `watch::rules::idle` is the definition's record: what it calls is the zero tag.
 -- Assumes nothing.
-use borrow.Author.Rules.{rules}
 use Rattle.watch.proofs.rules.idle.Goals as goal
 
 pub returns : goal.returns

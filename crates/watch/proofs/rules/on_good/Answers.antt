@@ -7,7 +7,7 @@ use Prim.Native.Nat.{ℕ}
 use lib.IntN.{ℤ}
 use mir.Syntax.{w64}
 use mir.Facts.{to_z-of_z}
-use borrow.Author.Rules.{rules, sfits_of}
+use borrow.Author.Rules.{sfits_of}
 use Rattle.ground.proofs.LawsChoice.{yes, no}
 use Rattle.calendar.proofs.LawsLeaps.{firsts}
 use Rattle.time.specs.Times.{between}

@@ -4,7 +4,6 @@ use mathlib.Core.Path.{◌≡◌, sym, ap, ◌∙◌}
 use Prim.Native.Nat.{ℕ}
 use lib.IntN.{ℤ}
 use mir.Facts.{to_z-of_z}
-use borrow.Author.Rules.{rules}
 use Rattle.watch_rule.specs.Rules.{rule_of}
 use Rattle.watch_rule.specs.declared.Rule.{Rule}
 use Rattle.watch_bounds.specs.declared.Watch.{Watch}
