@@ -1,4 +1,6 @@
 // Blocks, from C: the reader, what a header asks for, and the writer.
+#![tactic(auto)]
+
 ghost use Rattle.std.specs.Prelude.{◌≡◌, length};
 ghost use Rattle.block.specs.Answers.{answer_of};
 ghost use Rattle.block.specs.Answers as read;

@@ -1,4 +1,6 @@
 // What a block is made of, from C: the check word of a message, words of a size out of a field, and into one.
+#![tactic(auto)]
+
 ghost use Rattle.std.specs.Prelude.{◌≡◌, length};
 ghost use Rattle.check_rule.specs.Check.{check_word};
 ghost use Rattle.bits.specs.Fields.{take_answer, room_taken, put_answer, field_put};

@@ -1,4 +1,6 @@
 // Longitudinal parity, from C: a mark for each section of a layout.
+#![tactic(auto)]
+
 ghost use Rattle.std.specs.Prelude.{◌≡◌, [], ◌∷◌};
 ghost use Rattle.parity.specs.declared.Layout.TheVariants.{ImagerSpacelook, SounderSpacelook};
 ghost use Rattle.parity.specs.Sections.{sections_of};

@@ -1,4 +1,6 @@
 // Recordings, from C: the next field of one, the line that the listing has for a field, and the listing's text, line by line.
+#![tactic(auto)]
+
 ghost use Rattle.std.specs.Prelude.{◌≡◌, not, eqb};
 ghost use Rattle.std.proofs.Math.ListN as list;
 ghost use Rattle.room.specs.Laid.{laid_inside};

@@ -1,4 +1,6 @@
 // Detector records, from C: where one lies in the decoded words, and which channel and detector it holds.
+#![tactic(auto)]
+
 ghost use Rattle.std.specs.Prelude.{◌≡◌};
 ghost use Rattle.records.specs.Records.{part_of};
 ghost use Rattle.placement.specs.Placement.{place_of};

@@ -1,5 +1,7 @@
 // Time tags, from C. A time is seven numbers: year, day, hour, minute, second, millisecond and the flywheel mark. The leap days are lent with
 // each call.
+#![tactic(auto)]
+
 ghost use Rattle.std.specs.Prelude.{◌≡◌};
 ghost use Rattle.tag.specs.Tags.{read_tag, write_tag};
 ghost use Rattle.time.specs.Times.{elapsed_of};

@@ -1,5 +1,7 @@
 // The text of the listing (specs/Texts.antt). Each function that another crate calls puts one line at the front of lent room and answers its
 // length; where the room is too small it changes nothing and answers 0.
+#![tactic(auto)]
+
 ghost use Rattle.std.specs.Prelude.{◌≡◌, ◌≤◌, length};
 ghost use Rattle.room.specs.Laid.{laid, laid_inside};
 ghost use Rattle.text.specs.Texts.{put_length};

@@ -14,7 +14,7 @@ use Rattle.ground.specs.Choice.{pick}
 use Rattle.ground.proofs.LawsTests.{never}
 use Rattle.bits.specs.Bits.{Below}
 use Rattle.bits.proofs.LawsBelow.{below_drop}
-use Rattle.made.specs.Made.{length_by, made, makes}
+use Rattle.made.specs.Made.{length_by, made}
 use Rattle.made.specs.Promises.{MakesBlock}
 use Rattle.made.proofs.LawsMade.{made_so, made_long, length_least}
 use Rattle.made.proofs.KeepsMade.{makes_exactly}

@@ -1,5 +1,7 @@
 // Blocks found among junk: a recording of them, and a report of every block and of every span skipped. What is promised of it stands in
 // specs/Promises.antt.
+#![tactic(auto)]
+
 ghost use Rattle.std.specs.Prelude.{◌≡◌, ◌<◌, length};
 ghost use Rattle.salvaging.specs.Answers.{small_rooms, refused_salvaged, salvaged_of, recording_after, report_after, scratch_after};
 

@@ -1,7 +1,6 @@
 -- `c_blocks::rahmisve_read` meets its contract: what the reader answers, part by part.
 -- Assumes nothing.
 use mathlib.Core.Path.{refl}
-use borrow.Author.Rules.{rules}
 use Rattle.c_blocks.proofs.rahmisve_read.Goals as goal
 
 pub returns : goal.returns

@@ -1,6 +1,5 @@
 -- `c_fields::rahmisve_put_words` meets its contract: the words go into the field at the size as the library holds it.
 -- Assumes nothing.
-use borrow.Author.Rules.{rules}
 use Rattle.c_fields.proofs.rahmisve_put_words.Goals as goal
 
 pub returns : goal.returns

@@ -1,7 +1,6 @@
 -- `c_parity::rahmisve_parity_imager` meets its contract: the marks of the verdicts given.
 -- Assumes nothing.
 use mathlib.Core.Path.{refl}
-use borrow.Author.Rules.{rules}
 use Rattle.c_parity.proofs.rahmisve_parity_imager.Goals as goal
 
 pub returns : goal.returns

@@ -1,6 +1,5 @@
 -- `c_recording::rahmisve_first_text` meets its contract: what putting the first line answers, and a number by its length.
 -- Assumes nothing.
-use borrow.Author.Rules.{rules}
 use Rattle.listing.specs.Texts.{first_text}
 use Rattle.c_recording.proofs.LawsTold.{first_some, told}
 use Rattle.c_recording.proofs.rahmisve_first_text.Goals as goal

@@ -1,6 +1,5 @@
 -- `c_recording::rahmisve_last_text` meets its contract: what putting the last line answers, and a number by its length.
 -- Assumes nothing.
-use borrow.Author.Rules.{rules}
 use Rattle.listing.specs.Texts.{last_text}
 use Rattle.c_recording.proofs.LawsTold.{last_some, told}
 use Rattle.c_recording.proofs.rahmisve_last_text.Goals as goal

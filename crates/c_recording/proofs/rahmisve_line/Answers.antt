@@ -1,6 +1,5 @@
 -- `c_recording::rahmisve_line` meets its contract: what the field's line is for the tag as it is held.
 -- Assumes nothing.
-use borrow.Author.Rules.{rules}
 use Rattle.c_recording.proofs.rahmisve_line.Goals as goal
 
 pub returns : goal.returns

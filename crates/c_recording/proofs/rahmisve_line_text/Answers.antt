@@ -1,6 +1,5 @@
 -- `c_recording::rahmisve_line_text` meets its contract: what putting the line of these numbers answers, and a number by its length.
 -- Assumes nothing.
-use borrow.Author.Rules.{rules}
 use Rattle.recording.specs.declared.Line.{Line}
 use Rattle.listing.specs.Texts.{line_text}
 use Rattle.c_recording.proofs.LawsTold.{line_some, told}

@@ -1,7 +1,6 @@
 -- `c_recording::rahmisve_next_field` meets its contract: each arm knows what was found.
 -- Assumes nothing.
 use mathlib.Core.Path.{refl}
-use borrow.Author.Rules.{rules}
 use Rattle.c_recording.proofs.rahmisve_next_field.Goals as goal
 
 pub returns-in-End : goal.returns-in-End

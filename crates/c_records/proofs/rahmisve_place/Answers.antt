@@ -1,6 +1,5 @@
 -- `c_records::rahmisve_place` meets its contract: the placement answers for the numbers as it holds them.
 -- Assumes nothing.
-use borrow.Author.Rules.{rules}
 use Rattle.c_records.proofs.rahmisve_place.Goals as goal
 
 pub returns : goal.returns

@@ -1,6 +1,5 @@
 -- `c_records::rahmisve_record` meets its contract: record access answers for the number as it holds it.
 -- Assumes nothing.
-use borrow.Author.Rules.{rules}
 use Rattle.c_records.proofs.rahmisve_record.Goals as goal
 
 pub returns : goal.returns

@@ -1,7 +1,6 @@
 -- `c_tags::rahmisve_read_tag` meets its contract: the numbers of the tag that was read.
 -- Assumes nothing.
 use mathlib.Core.Path.{refl}
-use borrow.Author.Rules.{rules}
 use Rattle.c_tags.proofs.rahmisve_read_tag.Goals as goal
 
 pub returns : goal.returns

@@ -3,7 +3,6 @@
 use mathlib.Core.Path.{ap, ◌∙◌}
 use Rattle.tag.specs.Tags.{write_tag}
 use Rattle.tag.specs.declared.TagBytes.{TagBytes}
-use borrow.Author.Rules.{rules}
 use Rattle.c_tags.proofs.rahmisve_write_tag.Goals as goal
 
 pub returns : goal.returns

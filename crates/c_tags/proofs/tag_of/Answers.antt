@@ -1,6 +1,5 @@
 -- `c_tags::tag_of` meets its contract: each number in its place.
 -- Assumes nothing.
-use borrow.Author.Rules.{rules}
 use Rattle.c_tags.proofs.tag_of.Goals as goal
 
 pub returns : goal.returns

@@ -11,7 +11,6 @@ use Rattle.text.specs.Texts.{ends_at}
 use Rattle.text.proofs.LawsPut.{nothing, more, more_column, into}
 use Rattle.listing.specs.Texts.{last_word, last_text}
 use Rattle.listing.proofs.LawsTexts.{word_long}
-use borrow.Author.Rules.{rules}
 use Rattle.listing.proofs.put_last.Goals as goal
 
 pub slice_bounds-put_text-end : goal.slice_bounds-put_text-end

@@ -6,7 +6,6 @@ use lib.ListN.{replicate}
 use lib.Seq.{length-take-le}
 use Rattle.listing.specs.Texts.{line_text}
 use Rattle.text.proofs.LawsPut.{Put, into}
-use borrow.Author.Rules.{rules}
 use Rattle.listing.proofs.put_line.Goals as goal
 
 pub slice_bounds-put_text-end : goal.slice_bounds-put_text-end

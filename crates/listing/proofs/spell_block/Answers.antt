@@ -3,7 +3,6 @@
 use native.Mathlib.Omega.{arith}
 use Rattle.text.proofs.LawsPut.{nothing, more_column, as_text}
 use Rattle.listing.proofs.LawsTexts.{block_columns}
-use borrow.Author.Rules.{rules}
 use Rattle.listing.proofs.spell_block.Goals as goal
 
 pub returns : goal.returns

@@ -5,7 +5,6 @@ use borrow.Author.Tests.{eq-eqb, ne_eqb}
 use Rattle.ground.proofs.LawsChoice.{yes, no}
 use Rattle.listing.specs.Texts.{line_text}
 use Rattle.text.proofs.LawsPut.{as_text}
-use borrow.Author.Rules.{rules}
 use Rattle.listing.proofs.spell_line.Goals as goal
 
 pub returns-then-line-eq-ACCEPTED : goal.returns-then-line-eq-ACCEPTED

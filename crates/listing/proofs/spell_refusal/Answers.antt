@@ -4,7 +4,6 @@ use native.Mathlib.Omega.{arith}
 use Rattle.text.specs.Texts.{bytes_of}
 use Rattle.text.proofs.LawsPut.{nothing, more, more_column, as_text}
 use Rattle.listing.proofs.LawsTexts.{refusal_columns}
-use borrow.Author.Rules.{rules}
 use Rattle.listing.proofs.spell_refusal.Goals as goal
 
 pub returns : goal.returns

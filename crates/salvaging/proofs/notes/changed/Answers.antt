@@ -2,7 +2,6 @@
 -- Assumes nothing.
 use Prim.Native.Nat.{◌+◌, ◌*◌}
 use Rattle.salvaging.specs.Pieces.{changed_by}
-use borrow.Author.Rules.{rules}
 use Rattle.salvaging.proofs.notes.changed.Goals as goal
 
 pub returns : goal.returns

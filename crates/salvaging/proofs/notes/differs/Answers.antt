@@ -2,7 +2,6 @@
 -- Assumes nothing.
 use native.Mathlib.Omega.{arith}
 use Rattle.salvaging.proofs.LawsNotes.{same_0, differ_1}
-use borrow.Author.Rules.{rules}
 use Rattle.salvaging.proofs.notes.differs.Goals as goal
 
 pub returns-then-same : goal.returns-then-same

@@ -4,7 +4,6 @@ use mathlib.Core.Path.{refl}
 use native.Mathlib.Omega.{arith}
 use lib.ListN.{length-set}
 use Rattle.salvaging.proofs.LawsNotes.{laid_three}
-use borrow.Author.Rules.{rules}
 use Rattle.salvaging.proofs.notes.put.Goals as goal
 
 pub bounds-report-at-2 : goal.bounds-report-at-2

@@ -9,7 +9,6 @@ use Rattle.room.specs.Laid.{laid}
 use Rattle.room.proofs.LawsLaid.{laid_nil}
 use Rattle.salvaging.specs.Pieces.{Piece}
 use Rattle.salvaging.proofs.LawsNotes.{gap_some, gap_none, entry_some, entry_none}
-use borrow.Author.Rules.{rules}
 use Rattle.salvaging.proofs.notes.put_span.Goals as goal
 
 pub returns-then-from-to : goal.returns-then-from-to

@@ -1,10 +1,8 @@
 -- `same` goes on while the bytes are equal: the comparison of the copies is that of what is left of them.
 -- Assumes nothing.
-use Prim.Native.Nat.{◌-◌}
 use mathlib.Core.Path.{refl, sym, ◌∙◌}
 use native.Mathlib.Omega.{arith}
-use Rattle.copies.specs.Copies.{copy_length, copy_at}
-use Rattle.copies.proofs.LawsSame.{Comparing, same_goes_on, same_stops, same_ends}
+use Rattle.copies.proofs.LawsSame.{same_goes_on, same_stops, same_ends}
 use Rattle.copies.proofs.LawsAgreed.{copy_long}
 use Rattle.salvaging.proofs.LawsNotes.{copy_byte}
 use Rattle.salvaging.proofs.notes.same.Goals as goal

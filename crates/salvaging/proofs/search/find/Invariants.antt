@@ -1,10 +1,8 @@
 -- `find` meets its contract: both loops are left at the first start and copy with a block, or the starts run out.
 -- Assumes nothing.
 use Prim.Native.Nat.{◌-◌}
-use mathlib.Core.Path.{ap}
-use native.Mathlib.Omega.{arith}
 use lib.ListN.{length}
-use Rattle.salvaging.proofs.SearchTurns.{rest_is, Passed, Tried, begins, untried, passed_all, passes_on, tried_on, hits}
+use Rattle.salvaging.proofs.SearchTurns.{Passed, Tried}
 use Rattle.salvaging.proofs.search.find.Given as goal
 
 abbrev pub invariant-loop-copy : goal.invariant-loop-copy

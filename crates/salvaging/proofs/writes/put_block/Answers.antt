@@ -3,7 +3,6 @@
 use mathlib.Core.Path.{refl}
 use native.Mathlib.Omega.{arith}
 use Rattle.salvaging.proofs.LawsWrites.{block_put}
-use borrow.Author.Rules.{rules}
 use Rattle.salvaging.proofs.writes.put_block.Goals as goal
 
 pub overflow_add-result : goal.overflow_add-result

@@ -8,7 +8,6 @@ use Rattle.room.proofs.LawsLaid.{laid_inside_is}
 use Rattle.copies.specs.Copies.{copy_length, copy_at}
 use Rattle.copies.proofs.LawsAgreed.{copy_long}
 use Rattle.made.proofs.LawsMade.{part_is}
-use borrow.Author.Rules.{rules}
 use Rattle.salvaging.proofs.writes.put_copy.Goals as goal
 
 pub returns : goal.returns
