@@ -1,4 +1,6 @@
 // Salvage, from C: blocks found among junk, as a recording and a report.
+#![tactic(auto)]
+
 ghost use Rattle.std.specs.Prelude.{◌≡◌, length};
 ghost use Rattle.salvaging.specs.Answers.{salvaged_of, recording_after, report_after, scratch_after};
 

@@ -1,4 +1,6 @@
 // The Sounder's status, from C: thirteen numbers of a block, a row of eight for each of its tags, and whether one detector is suspect.
+#![tactic(auto)]
+
 ghost use Rattle.std.specs.Prelude.{◌≡◌, map};
 ghost use Rattle.detectors.specs.Status.{channel_of, detector_of};
 ghost use Rattle.sounder.specs.Judging.{status_of, asked_of};

@@ -1,4 +1,6 @@
 // Floating numbers, from C: what a word says, and the numbers of the two spacelook blocks. A reading is the number of its case, and a double.
+#![tactic(auto)]
+
 ghost use Rattle.std.specs.Prelude.{◌≡◌, length};
 ghost use Rattle.parity.specs.declared.Layout.TheVariants.{ImagerSpacelook, SounderSpacelook};
 ghost use Rattle.floating.specs.Floating.{reading_of};

@@ -1,5 +1,7 @@
 // The scan watch, from C. The host keeps it as eleven numbers: open, expected block, the seven numbers of the last tag, limit, and the set
 // of fill blocks.
+#![tactic(auto)]
+
 ghost use Rattle.std.specs.Prelude.{◌≡◌};
 ghost use Rattle.watch_rule.specs.Rules.{closing_kind};
 ghost use Rattle.watch.specs.Verdicts.{number_of, kind_of, fill_of, count_of};

@@ -1,6 +1,5 @@
 -- `c_salvage::rahmisve_salvage` meets its contract: what the salvage answers, number by number, and leaves.
 -- Assumes nothing.
-use borrow.Author.Rules.{rules}
 use Rattle.c_salvage.proofs.rahmisve_salvage.Goals as goal
 
 pub returns : goal.returns

@@ -2,7 +2,6 @@
 -- Assumes nothing.
 use mathlib.Core.Path.{ap, ◌∙◌}
 use Rattle.floating.specs.Cases.{case_of, value_of}
-use borrow.Author.Rules.{rules}
 use Rattle.c_spacelook.proofs.rahmisve_read_floating.Goals as goal
 
 pub returns : goal.returns

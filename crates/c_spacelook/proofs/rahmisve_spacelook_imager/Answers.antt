@@ -2,7 +2,6 @@
 -- Assumes nothing.
 use mathlib.Core.Path.{ap, ◌∙◌}
 use Rattle.spacelook.specs.Answers.{answer_in, case_in, value_in}
-use borrow.Author.Rules.{rules}
 use Rattle.c_spacelook.proofs.rahmisve_spacelook_imager.Goals as goal
 
 pub returns : goal.returns

@@ -3,7 +3,6 @@
 use mathlib.Core.Path.{sym, ap}
 use lib.Ieee.{of_bits}
 use Rattle.spacelook.specs.Answers.{value_in}
-use borrow.Author.Rules.{rules}
 use Rattle.c_spacelook.proofs.value_in.Goals as goal
 
 pub returns-in-Refused : goal.returns-in-Refused

@@ -2,7 +2,6 @@
 -- Assumes nothing.
 use mathlib.Core.Path.{refl}
 use borrow.Author.Tests.{eq-eqb, ne_eqb}
-use borrow.Author.Rules.{rules}
 use Rattle.c_watch.proofs.rahmisve_watch_begin.Goals as goal
 
 pub returns-then-begun-ne-ACCEPTED : goal.returns-then-begun-ne-ACCEPTED

@@ -1,7 +1,6 @@
 -- `c_watch::rahmisve_watch_offer` meets its contract: what the step by value answers, and each branch knows whether the watch is left.
 -- Assumes nothing.
 use mathlib.Core.Path.{refl, sym, ◌∙◌}
-use borrow.Author.Rules.{rules}
 use Rattle.c_watch.proofs.rahmisve_watch_offer.Goals as goal
 
 pub returns-then-leaves : goal.returns-then-leaves

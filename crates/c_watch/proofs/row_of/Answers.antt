@@ -1,6 +1,5 @@
 -- `c_watch::row_of` meets its contract: each number in its place.
 -- Assumes nothing.
-use borrow.Author.Rules.{rules}
 use Rattle.c_watch.proofs.row_of.Goals as goal
 
 pub returns : goal.returns

@@ -1,6 +1,5 @@
 -- `c_watch::watch_in` meets its contract: each number in its place.
 -- Assumes nothing.
-use borrow.Author.Rules.{rules}
 use Rattle.c_watch.proofs.watch_in.Goals as goal
 
 pub returns : goal.returns
