@@ -36,7 +36,7 @@ pub extern "C" fn rahmisve_line(
     version: &mut u8,
     word_count: &mut usize,
 ) -> u8
-    ensures word_count_after { record { seq = seq.exit.now; answer = result; block = block.new; version = version.new; words = word_count.new } ≡ line_of before (up_to 255 tag) body.now (list.length room.old) }
+    ensures word_count_after { record { seq = seq.new; answer = result; block = block.new; version = version.new; words = word_count.new } ≡ line_of before (up_to 255 tag) body.now (list.length room.old) }
     ensures room_after { room.new ≡ room_listed (up_to 255 tag) body.now room.old }
 {
     c_recording::rahmisve_line(before, tag, body, room, seq, block, version, word_count)
