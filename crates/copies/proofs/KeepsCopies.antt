@@ -6,19 +6,19 @@ use mathlib.Core.List.{List}
 use Rattle.ground.specs.Grounds.{first_of}
 use Rattle.ground.proofs.LawsGrounds.{accepts, refuses, reads_number, none_first, first_none}
 use Rattle.bits.specs.Bits.{Below}
-use Rattle.copies.specs.declared.Common.{Common}
+use Rattle.copies.specs.Copies.{CommonAnswer}
 use Rattle.copies.specs.Copies.{copy_at, common_in, copies_grounds, found_common, refused_common, common_of}
 use Rattle.copies.specs.Agreed.{Agreed}
 use Rattle.copies.specs.Promises.{agreed_common, ReadsCommon}
 use Rattle.copies.proofs.LawsAgreed.{none_agreed, agreed_none}
 
 module _ (block : List ℕ) where
-  abbrev found : Common
+  abbrev found : CommonAnswer
   found = found_common (copy_at 0 block) (copy_at 1 block) (copy_at 2 block)
 
   pub common_number : (common_of block).number ≡ first_of (copies_grounds block)
   unfolding common_of
-  common_number = reads_number found refused_common (λ (r : Common). r.number) refl (λ n. refl) (first_of (copies_grounds block))
+  common_number = reads_number found refused_common (λ (r : CommonAnswer). r.number) refl (λ n. refl) (first_of (copies_grounds block))
 
   pub common_found : first_of (copies_grounds block) ≡ 0 → common_of block ≡ found
   unfolding common_of

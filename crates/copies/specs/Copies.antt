@@ -1,8 +1,10 @@
 -- The three header copies of a block, and the header that the passing ones have in common.
 -- Assumes nothing.
-use Rattle.std.specs.Prelude.{ℕ, ◌*◌, Bool, true, false, not, ◌&&◌, ◌||◌, List, [], ◌∷◌, eqb, ltb, length, take, drop, replicate}
+use Rattle.std.specs.Prelude.{ℕ, ◌*◌, Bool, true, false, not, ◌&&◌, ◌||◌, List, [], ◌∷◌, eqb, ltb, length, take, drop, replicate, Result, Ok, Err}
 use Rattle.ground.specs.Choice.{pick}
 use Rattle.ground.specs.Grounds.{Ground, ◌when◌, first_of}
+use Rattle.ground.specs.declared.Refusal.{Refusal}
+use Rattle.ground.specs.Refusals.{number_of}
 use Rattle.check_rule.specs.Check.{passes}
 use Rattle.copies.specs.declared.Common.{Common}
 
@@ -66,19 +68,32 @@ common_in block = common (copy_at 0 block) (copy_at 1 block) (copy_at 2 block)
 abbrev pub header_in : List ℕ → List ℕ
 header_in block = take header_length (common_in block)
 
-abbrev pub refused_common : ℕ → Common
+-- the answer as numbers: 0 and what the copies have in common, or a refusal's number and zeros
+pub record CommonAnswer : Type 0 where
+  pub number : ℕ
+  pub header : List ℕ
+  pub first : Bool
+  pub second : Bool
+  pub third : Bool
+
+abbrev pub refused_common : ℕ → CommonAnswer
 refused_common n = record { number = n; header = replicate header_length 0; first = false; second = false; third = false }
 
 -- the header, and which of the copies passed
-abbrev pub found_common : (a b c : List ℕ) → Common
+abbrev pub found_common : (a b c : List ℕ) → CommonAnswer
 found_common a b c = record { number = 0; header = take header_length (common a b c); first = passes a; second = passes b; third = passes c }
 
 -- what three copies answer, by the number of the ground that comes first
-abbrev pub answer_by : ℕ → (a b c : List ℕ) → Common
+abbrev pub answer_by : ℕ → (a b c : List ℕ) → CommonAnswer
 answer_by n a b c = pick (eqb n 0) (found_common a b c) (refused_common n)
 
-unfoldable pub agreed_of : (a b c : List ℕ) → Common
+unfoldable pub agreed_of : (a b c : List ℕ) → CommonAnswer
 agreed_of a b c = answer_by (first_of ((2 when none_passes a b c) ∷ (3 when two_differ a b c) ∷ [])) a b c
 
-unfoldable pub common_of : List ℕ → Common
+unfoldable pub common_of : List ℕ → CommonAnswer
 common_of block = answer_by (first_of (copies_grounds block)) (copy_at 0 block) (copy_at 1 block) (copy_at 2 block)
+
+-- what is told of an answer
+abbrev pub told : Result Common Refusal → CommonAnswer
+told (Ok c) = record { number = 0; header = c.header; first = c.first; second = c.second; third = c.third }
+told (Err r) = refused_common (number_of r)

@@ -3,12 +3,12 @@
 use Rattle.std.specs.Prelude.{ℕ, ◌≡◌, List, take}
 use Rattle.bits.specs.Bits.{Below}
 use Rattle.check_rule.specs.Check.{passes}
-use Rattle.copies.specs.declared.Common.{Common}
+use Rattle.copies.specs.Copies.{CommonAnswer}
 use Rattle.copies.specs.Copies.{header_length, copy_at, common_of, refused_common}
 use Rattle.copies.specs.Agreed.{Agreed}
 
 -- the first 28 bytes of what the copies that pass have in common, and which of the copies passed
-abbrev pub agreed_common : (block c : List ℕ) → Common
+abbrev pub agreed_common : (block c : List ℕ) → CommonAnswer
 agreed_common block c =
     record { number = 0; header = take header_length c; first = passes (copy_at 0 block); second = passes (copy_at 1 block); third = passes (copy_at 2 block) }
 

@@ -2,9 +2,10 @@
 ghost use Rattle.std.specs.Prelude.{◌≡◌, not, ◌&&◌, [], ◌<◌, ◌≤◌, length, take, get_or};
 ghost use Rattle.ground.specs.Choice.{pick};
 ghost use Rattle.check_rule.specs.Check.{passes};
-ghost use Rattle.copies.specs.Copies.{header_length, copies_length, copy_at, same_as, refused_common, agreed_of};
+ghost use Rattle.copies.specs.Copies.{header_length, copies_length, copy_at, same_as, told, agreed_of};
 
 use crate::{COPY_BYTES, Common, HEADER_BYTES};
+use ground::Refusal;
 
 // Copy k, from 0.
 pub(crate) fn copy_at(block: &[u8], k: usize) -> [u8; 30]
@@ -67,42 +68,28 @@ fn header_of(copies: [[u8; 30]; 3], first: bool, second: bool) -> [u8; 28]
     front(copies[2])
 }
 
-pub(crate) fn refused(number: u8) -> Common
-    ensures { result ≡ refused_common number }
-{
-    let header = [0u8; 28];
-    Common {
-        number: number,
-        header: header,
-        first: false,
-        second: false,
-        third: false,
-    }
-}
-
 // What three copies have in common.
-pub(crate) fn agree(a: [u8; 30], b: [u8; 30], c: [u8; 30]) -> Common
-    ensures { result ≡ agreed_of a b c }
+pub(crate) fn agree(a: [u8; 30], b: [u8; 30], c: [u8; 30]) -> Result<Common, Refusal>
+    ensures { told result ≡ agreed_of a b c }
 {
     let copies = [a, b, c];
     let first = copy_passes(copies[0]);
     let second = copy_passes(copies[1]);
     let third = copy_passes(copies[2]);
     if !(first | (second | third)) {
-        return refused(ground::NO_COPY_PASSES);
+        return Err(Refusal::NoCopyPasses);
     }
     let one = differ(first, copies[0], second, copies[1]);
     let two = differ(first, copies[0], third, copies[2]);
     let three = differ(second, copies[1], third, copies[2]);
     if one | (two | three) {
-        return refused(ground::COPIES_DIFFER);
+        return Err(Refusal::CopiesDiffer);
     }
     let header = header_of(copies, first, second);
-    Common {
-        number: ground::ACCEPTED,
-        header: header,
-        first: first,
-        second: second,
-        third: third,
-    }
+    Ok(Common {
+        header,
+        first,
+        second,
+        third,
+    })
 }

@@ -2,7 +2,9 @@
 #![tactic(auto)]
 
 ghost use Rattle.std.specs.Prelude.{◌≡◌};
-ghost use Rattle.copies.specs.Copies.{common_of};
+ghost use Rattle.copies.specs.Copies.{told, common_of};
+
+use ground::Refusal;
 
 mod compare;
 
@@ -15,10 +17,9 @@ pub const COPIES_BYTES: usize = 90;
 
 pub const COPIES: usize = 3;
 
-// What the three copies have in common, with number 0: the header's 28 bytes, and which copies passed; or a refusal's number and zeros.
+// What the three copies have in common: the header's 28 bytes, and which copies passed.
 #[derive(Clone, Copy)]
 pub struct Common {
-    pub number: u8,
     pub header: [u8; 28],
     pub first: bool,
     pub second: bool,
@@ -26,11 +27,11 @@ pub struct Common {
 }
 
 // Reads the three copies in front of a block.
-pub fn common_copy(block: &[u8]) -> Common
-    ensures { result ≡ common_of block.now }
+pub fn common_copy(block: &[u8]) -> Result<Common, Refusal>
+    ensures { told result ≡ common_of block.now }
 {
     if block.len() < COPIES_BYTES {
-        return compare::refused(ground::NO_HEADER);
+        return Err(Refusal::NoHeader);
     }
     let a = compare::copy_at(block, 0);
     let b = compare::copy_at(block, 1);

@@ -4,3 +4,4 @@ pub mod LawsTests
 pub mod LawsWalk
 pub mod LawsFilling
 pub mod LawsLowest
+pub mod LawsRefusals

@@ -13,8 +13,7 @@ pub returns-then-block-lt-COPIES_BYTES : goal.returns-then-block-lt-COPIES_BYTES
 unfolding common_of
 returns-then-block-lt-COPIES_BYTES c =
     let b = c.args.block.now in
-    c.refused.ensures
-    ∙ refuses (found_common (copy_at 0 b) (copy_at 1 b) (copy_at 2 b)) refused_common (sym (yes _ refl (lt-ltb _ _ c.if-block-lt-COPIES_BYTES.true) refl)) (λ z. omega arith)
+    refuses (found_common (copy_at 0 b) (copy_at 1 b) (copy_at 2 b)) refused_common (sym (yes _ refl (lt-ltb _ _ c.if-block-lt-COPIES_BYTES.true) refl)) (λ z. omega arith)
 
 pub returns : goal.returns
 unfolding common_of agreed_of
