@@ -1,6 +1,6 @@
 -- No refusal has the number 0, no two have the same, and an answer is known by what is told of it.
 -- Assumes nothing.
-use Rattle.std.specs.Prelude.{ℕ, ◌-◌, ◌≡◌, List, [], ◌∷◌, get_or, Result}
+use Rattle.std.specs.Prelude.{ℕ, ◌-◌, ◌≡◌, List, [], ◌∷◌, get_or, Result, Ok, Err, IsErrAnd}
 use Rattle.std.proofs.Common.{refl, sym, ap, ◌∙◌, arith}
 use Rattle.ground.specs.declared.Refusal.{Refusal}
 use Rattle.ground.specs.declared.Refusal.TheVariants.{NoHeader, NoCopyPasses, CopiesDiffer, UnknownBlock, UnknownVersion, WrongSize, WrongCount, WrongLength, SmallRoom, CheckDisagrees, FillNotZero, BadTag, NoRecord, LargeWord, OtherField, LongLimit, OffBoundary, NoBlock, BadLeapDays, BadFill, SpareBit, OutOfRange}
@@ -60,7 +60,19 @@ never_zero BadFill e = omega arith
 never_zero SpareBit e = omega arith
 never_zero OutOfRange e = omega arith
 
--- where what was told gives the answer back, two answers that are told alike are equal
-pub told_once : {T A : Type 0} (told : Result T Refusal → A) (back : A → Result T Refusal) → ((x : Result T Refusal) → back (told x) ≡ x)
-    → {x y : Result T Refusal} {m : A} → told x ≡ m → told y ≡ m → x ≡ y
-told_once told back kept {x} {y} p q = sym (kept x) ∙ ap back (p ∙ sym q) ∙ kept y
+-- what the exit of a `?` returns
+pub passed_on : {T : Type 0} {e : Refusal} (r : Result T Refusal) → IsErrAnd r (λ y. y ≡ e) → r ≡ Err e
+passed_on (Ok x) h = absurd h
+passed_on (Err y) h = ap Err h
+
+-- Two answers of which the same is told are equal: the number tells a refusal, and `ok` gives back what is no refusal.
+module _ {T A : Type 0} (told : Result T Refusal → A) (number : A → ℕ) (ok : A → T)
+    (zero : (v : T) → number (told (Ok v)) ≡ 0) (own : (r : Refusal) → number (told (Err r)) ≡ number_of r) (back : (v : T) → ok (told (Ok v)) ≡ v) where
+  pub told_once : {x y : Result T Refusal} {m : A} → told x ≡ m → told y ≡ m → x ≡ y
+  told_once {x} {y} p q = go x y (p ∙ sym q)
+    where
+      go : (x y : Result T Refusal) → told x ≡ told y → x ≡ y
+      go (Ok v) (Ok w) e = ap Ok (sym (back v) ∙ ap ok e ∙ back w)
+      go (Ok v) (Err r) e = absurd (never_zero r (sym (own r) ∙ sym (ap number e) ∙ zero v))
+      go (Err r) (Ok v) e = absurd (never_zero r (sym (own r) ∙ ap number e ∙ zero v))
+      go (Err r) (Err s) e = ap Err (sym (refusal_kept r) ∙ ap refusal_of (sym (own r) ∙ ap number e ∙ own s) ∙ refusal_kept s)

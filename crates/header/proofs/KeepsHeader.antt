@@ -17,7 +17,7 @@ use Rattle.row.specs.Promises.{longest_field, Held}
 use Rattle.row.proofs.LawsRow.{row_records}
 use Rattle.row.proofs.LawsField.{words_held}
 use Rattle.copies.specs.Copies.{header_length}
-use Rattle.header.specs.declared.Plan.{Plan}
+use Rattle.header.specs.Plans.{PlanAnswer}
 use Rattle.header.specs.Says.{number_of, block_in, size_in, words_in, version_in, bytes_in}
 use Rattle.header.specs.Plans.{plan_grounds, header_grounds, granted_plan, refused_plan, plan_of}
 use Rattle.header.specs.Asks.{Asks}
@@ -28,7 +28,7 @@ use Rattle.header.proofs.LawsAsks.{none_asks, asks_none, asked_block, asked_word
 module _ (h : List ℕ) where
   pub plan_number : (plan_of h).number ≡ first_of (plan_grounds h)
   unfolding plan_of
-  plan_number = reads_number (granted_plan h) refused_plan (λ (p : Plan). p.number) refl (λ n. refl) (first_of (plan_grounds h))
+  plan_number = reads_number (granted_plan h) refused_plan (λ (p : PlanAnswer). p.number) refl (λ n. refl) (first_of (plan_grounds h))
 
   pub plan_granted : first_of (plan_grounds h) ≡ 0 → plan_of h ≡ granted_plan h
   unfolding plan_of
@@ -59,7 +59,7 @@ module _ (h : List ℕ) where
   pub plan_short : (plan_of h).bytes ≤ longest_field
   unfolding plan_of
   plan_short =
-      either (λ (p : Plan). p.bytes ≤ longest_field) (eqb (first_of (plan_grounds h)) 0)
+      either (λ (p : PlanAnswer). p.bytes ≤ longest_field) (eqb (first_of (plan_grounds h)) 0)
       (λ e. (granted_held (plan_number ∙ eqb-true (first_of (plan_grounds h)) 0 e)).short) (λ _. lit≤ tt)
 
 pub grants_asked : GrantsAsked

@@ -15,16 +15,16 @@ use Rattle.row.specs.Promises.{longest_field, Held}
 use Rattle.copies.specs.Copies.{header_length}
 use Rattle.header.specs.Says.{size_in, words_in, bytes_in}
 use Rattle.header.specs.Plans.{plan_grounds, plan_of, granted_plan}
-use Rattle.header.specs.declared.Plan.{Plan}
+use Rattle.header.specs.Plans.{PlanAnswer}
 use Rattle.header.proofs.KeepsHeader.{plan_number, plan_granted, granted_held, plan_short, grants_asked}
 
-module _ (h : List ℕ) {p : Plan} (e : p ≡ plan_of h) where
+module _ (h : List ℕ) {p : PlanAnswer} (e : p ≡ plan_of h) where
   number_is : p.number ≡ (plan_of h).number
-  number_is = ap (λ (q : Plan). q.number) e
+  number_is = ap (λ (q : PlanAnswer). q.number) e
 
   -- so that the length of its block does not overflow
   pub plan_brief : p.bytes ≤ longest_field
-  plan_brief = subst (λ (q : Plan). q.bytes ≤ longest_field) (sym e) (plan_short h)
+  plan_brief = subst (λ (q : PlanAnswer). q.bytes ≤ longest_field) (sym e) (plan_short h)
 
   module _ (gs : List Ground) where
     plan_then : first_of (plan_grounds h ++ gs) ≡ pick (eqb p.number 0) (first_of gs) p.number

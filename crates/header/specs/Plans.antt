@@ -1,8 +1,10 @@
 -- The grounds on which a header is refused, and what one that is not refused asks for.
 -- Assumes nothing.
-use Rattle.std.specs.Prelude.{ℕ, Bool, not, ◌||◌, List, [], ◌∷◌, eqb, ltb, length}
+use Rattle.std.specs.Prelude.{ℕ, Bool, not, ◌||◌, List, [], ◌∷◌, eqb, ltb, length, Result, Ok, Err}
 use Rattle.ground.specs.Choice.{pick}
 use Rattle.ground.specs.Grounds.{Ground, ◌when◌, first_of}
+use Rattle.ground.specs.declared.Refusal.{Refusal}
+use Rattle.ground.specs.Refusals.{number_of}
 use Rattle.row.specs.Rows.{last_block, last_version, permits}
 use Rattle.copies.specs.Copies.{header_length}
 use Rattle.header.specs.declared.Plan.{Plan}
@@ -34,10 +36,20 @@ not_header header = not (eqb (length header) header_length)
 abbrev pub plan_grounds : List ℕ → List Ground
 plan_grounds header = (1 when not_header header) ∷ header_grounds header
 
-abbrev pub refused_plan : ℕ → Plan
+-- the answer as numbers: 0 and the plan, or a refusal's number and zeros
+pub record PlanAnswer : Type 0 where
+  pub number : ℕ
+  pub block : ℕ
+  pub version : ℕ
+  pub size : ℕ
+  pub records : ℕ
+  pub words : ℕ
+  pub bytes : ℕ
+
+abbrev pub refused_plan : ℕ → PlanAnswer
 refused_plan n = record { number = n; block = 0; version = 0; size = 0; records = 0; words = 0; bytes = 0 }
 
-abbrev pub granted_plan : List ℕ → Plan
+abbrev pub granted_plan : List ℕ → PlanAnswer
 granted_plan header =
     record {
       number = 0;
@@ -49,5 +61,10 @@ granted_plan header =
       bytes = bytes_in header;
     }
 
-unfoldable pub plan_of : List ℕ → Plan
+unfoldable pub plan_of : List ℕ → PlanAnswer
 plan_of header = pick (eqb (first_of (plan_grounds header)) 0) (granted_plan header) (refused_plan (first_of (plan_grounds header)))
+
+-- what is told of an answer
+abbrev pub told : Result Plan Refusal → PlanAnswer
+told (Ok p) = record { number = 0; block = p.block; version = p.version; size = p.size; records = p.records; words = p.words; bytes = p.bytes }
+told (Err r) = refused_plan (number_of r)

@@ -4,13 +4,13 @@ use Rattle.std.specs.Prelude.{ℕ, ◌-◌, ◌≡◌, List, ◌∷◌, length, 
 use Rattle.row.specs.Rows.{records_in}
 use Rattle.row.specs.Field.{field_bytes}
 use Rattle.copies.specs.Copies.{header_length}
-use Rattle.header.specs.declared.Plan.{Plan}
+use Rattle.header.specs.Plans.{PlanAnswer}
 use Rattle.header.specs.Says.{block_in, size_in, words_in, version_in}
 use Rattle.header.specs.Plans.{plan_of, refused_plan}
 use Rattle.header.specs.Asks.{Asks}
 
 -- the plan of block b, version v, with C words of w bits
-abbrev pub asked_plan : (b v w C : ℕ) → Plan
+abbrev pub asked_plan : (b v w C : ℕ) → PlanAnswer
 asked_plan b v w C = record { number = 0; block = b; version = v; size = w; records = records_in b v; words = C; bytes = field_bytes b C }
 
 -- 28 bytes have a plan exactly where they ask for a block, and it is of what they ask for; a refusal is its number and zeros

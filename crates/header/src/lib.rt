@@ -2,9 +2,10 @@
 #![tactic(auto)]
 
 ghost use Rattle.std.specs.Prelude.{◌≡◌};
-ghost use Rattle.header.specs.Plans.{plan_of};
+ghost use Rattle.header.specs.Plans.{told, plan_of};
 
 use copies::HEADER_BYTES;
+use ground::Refusal;
 
 mod plans;
 mod says;
@@ -12,11 +13,9 @@ mod says;
 // The words that a header's count has beyond the field's: they hold the block's check word.
 pub const EXTRA_WORDS: u16 = 2;
 
-// What a header asks for, with number 0; or a refusal's number and zeros. `words` is C, the data words before fill, and `bytes` the
-// length of the field.
+// What a header asks for. `words` is C, the data words before fill, and `bytes` the length of the field.
 #[derive(Clone, Copy)]
 pub struct Plan {
-    pub number: u8,
     pub block: u8,
     pub version: u8,
     pub size: u8,
@@ -26,15 +25,12 @@ pub struct Plan {
 }
 
 // The plan of 28 header bytes, which the reader gives back and the writer and record access take.
-pub fn plan_of(header: &[u8]) -> Plan
-    ensures { result ≡ plan_of header.now }
+pub fn plan_of(header: &[u8]) -> Result<Plan, Refusal>
+    ensures { told result ≡ plan_of header.now }
 {
-    if header.len() != HEADER_BYTES {
-        return plans::refused(ground::NO_HEADER);
-    }
-    let number = plans::refusal(header);
-    if number != ground::ACCEPTED {
-        return plans::refused(number);
-    }
-    plans::granted(header)
+    let Ok(header) = <&[u8; HEADER_BYTES]>::try_from(header) else {
+        return Err(Refusal::NoHeader);
+    };
+    plans::test(header)?;
+    Ok(plans::granted(header))
 }

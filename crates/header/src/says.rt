@@ -1,8 +1,8 @@
 // What the words of a header say (504-02, Table 3-5).
-ghost use Rattle.std.specs.Prelude.{◌≡◌, length};
-ghost use Rattle.copies.specs.Copies.{header_length};
+ghost use Rattle.std.specs.Prelude.{◌≡◌};
 ghost use Rattle.header.specs.Says.{number_of, block_in, count_in, row_in};
 
+use copies::HEADER_BYTES;
 use row::Row;
 
 // The bytes that hold words 1, 2, 3 with 4, and 8.
@@ -25,23 +25,20 @@ fn number_of(id: u8) -> u8
     }
 }
 
-pub(crate) fn block_in(header: &[u8]) -> u8
-    requires { length header.now ≡ header_length }
+pub(crate) fn block_in(header: &[u8; HEADER_BYTES]) -> u8
     ensures { result ≡ block_in header.now }
 {
     number_of(header[ID])
 }
 
 // As it stands there: of the field's words and two more.
-pub(crate) fn count_in(header: &[u8]) -> u16
-    requires { length header.now ≡ header_length }
+pub(crate) fn count_in(header: &[u8; HEADER_BYTES]) -> u16
     ensures { result ≡ count_in header.now }
 {
     bits::two_bytes(header[COUNT], header[COUNT + 1])
 }
 
-pub(crate) fn row_in(header: &[u8]) -> Row
-    requires { length header.now ≡ header_length }
+pub(crate) fn row_in(header: &[u8; HEADER_BYTES]) -> Row
     ensures { result ≡ row_in header.now }
 {
     row::row_of(block_in(header), header[VERSION], header[SIZE])

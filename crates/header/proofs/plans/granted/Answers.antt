@@ -8,7 +8,7 @@ use Rattle.header.proofs.LawsPlans.{clear}
 use Rattle.header.proofs.plans.granted.Goals as goal
 
 pub overflow_sub-words : goal.overflow_sub-words
-overflow_sub-words c = omega (arith, (clear c.args.header.now (first_none (header_grounds c.args.header.now) refl c.requires.header_value)).enough, c.count_in.ensures)
+overflow_sub-words c = omega (arith, (clear c.args.header.now (first_none (header_grounds c.args.header.now) refl c.requires)).enough, c.count_in.ensures)
 
 pub returns : goal.returns
 returns c = cc

@@ -1,8 +1,8 @@
--- `refusal` gives the first ground that holds: each return knows that the tests before it did not.
+-- `test` gives the first ground that holds: each return knows that the tests before it did not.
 -- Assumes nothing.
 use mathlib.Core.Path.{refl}
 use Rattle.ground.proofs.LawsChoice.{yes, no}
-use Rattle.header.proofs.plans.refusal.Goals as goal
+use Rattle.header.proofs.plans.test.Goals as goal
 
 pub returns-then-unknown_block : goal.returns-then-unknown_block
 returns-then-unknown_block c = yes _ c.unknown_block.ensures c.if-unknown_block.true refl
