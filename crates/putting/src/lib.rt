@@ -3,8 +3,11 @@
 #![tactic(auto)]
 
 ghost use Rattle.std.specs.Prelude.{◌≡◌, ◌*◌, ◌^◌, ◌≤◌, length};
+ghost use Rattle.ground.specs.Refusals.{number_in};
 ghost use Rattle.bits.specs.Bits.{Below};
 ghost use Rattle.bits.specs.Fields.{put_answer, field_put, field_of};
+
+use ground::Refusal;
 
 mod bytes;
 mod each;
@@ -31,20 +34,20 @@ fn put_fitting(words: &[u16], size: u8, field: &mut [u8])
     each::put_plain(words, size as usize, field);
 }
 
-// Puts the words into all of the field, with zeros behind them. The answer is 0, or a refusal that leaves the field as it was.
-pub fn put_words(words: &[u16], size: u8, field: &mut [u8]) -> u8
-    ensures value { result ≡ put_answer size words.now (length field.old) }
+// Puts the words into all of the field, with zeros behind them. A refusal leaves the field as it was.
+pub fn put_words(words: &[u16], size: u8, field: &mut [u8]) -> Result<(), Refusal>
+    ensures value { number_in result ≡ put_answer size words.now (length field.old) }
     ensures field_after { field.new ≡ field_put size words.now field.old }
 {
     if bits::fitting::is_bad_size(size) {
-        return ground::WRONG_SIZE;
+        return Err(Refusal::WrongSize);
     }
     if !bits::fitting::they_fit(words.len(), size, field.len()) {
-        return ground::SMALL_ROOM;
+        return Err(Refusal::SmallRoom);
     }
     if !fitting::all_fit(words, size) {
-        return ground::LARGE_WORD;
+        return Err(Refusal::LargeWord);
     }
     put_fitting(words, size, field);
-    ground::ACCEPTED
+    Ok(())
 }

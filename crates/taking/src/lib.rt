@@ -2,9 +2,11 @@
 #![tactic(auto)]
 
 ghost use Rattle.std.specs.Prelude.{◌≡◌, ◌++◌, ◌*◌, ◌≤◌, length, drop};
+ghost use Rattle.ground.specs.Refusals.{number_in};
 ghost use Rattle.bits.specs.Fields.{take_answer, room_taken, words_of};
 
 use bits::fitting;
+use ground::Refusal;
 
 mod bytes;
 mod each;
@@ -28,20 +30,20 @@ fn take_fitting(field: &[u8], size: u8, count: usize, room: &mut [u16])
     each::take_each(field, size as usize, count, room);
 }
 
-// Takes the first `count` words out of the field, to the front of the room. The answer is 0, or a refusal that leaves the room as it was.
-pub fn take_words(field: &[u8], size: u8, count: usize, room: &mut [u16]) -> u8
-    ensures value { result ≡ take_answer size count field.now (length room.old) }
+// Takes the first `count` words out of the field, to the front of the room. A refusal leaves the room as it was.
+pub fn take_words(field: &[u8], size: u8, count: usize, room: &mut [u16]) -> Result<(), Refusal>
+    ensures value { number_in result ≡ take_answer size count field.now (length room.old) }
     ensures room_after { room.new ≡ room_taken size count field.now room.old }
 {
     if fitting::is_bad_size(size) {
-        return ground::WRONG_SIZE;
+        return Err(Refusal::WrongSize);
     }
     if !fitting::they_fit(count, size, field.len()) {
-        return ground::WRONG_LENGTH;
+        return Err(Refusal::WrongLength);
     }
     if room.len() < count {
-        return ground::SMALL_ROOM;
+        return Err(Refusal::SmallRoom);
     }
     take_fitting(field, size, count, room);
-    ground::ACCEPTED
+    Ok(())
 }
