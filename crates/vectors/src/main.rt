@@ -2,6 +2,8 @@
 // same words put in again, and the fill behind three of them.
 #![tactic(auto)]
 
+use ground::Refusal;
+
 fn print(rt: &HostRuntime, text: &[u8]) {
     let _ = rt.write_all(text);
 }
@@ -12,6 +14,18 @@ fn word(rt: &HostRuntime, w: u16) {
 
 fn byte(rt: &HostRuntime, b: u8) {
     word(rt, b as u16);
+}
+
+// What a call answered, as C is told it.
+fn answered(rt: &HostRuntime, answer: Result<(), Refusal>) {
+    print(rt, b", answer");
+    byte(
+        rt,
+        match answer {
+            Ok(()) => ground::ACCEPTED,
+            Err(refusal) => refusal.number(),
+        },
+    );
 }
 
 fn end_line(rt: &HostRuntime) {
@@ -33,8 +47,7 @@ fn four_words(rt: &HostRuntime, field: &[u8], size: u8) {
     word(rt, room[1]);
     word(rt, room[2]);
     word(rt, room[3]);
-    print(rt, b", answer");
-    byte(rt, answer);
+    answered(rt, answer);
     end_line(rt);
 }
 
@@ -48,8 +61,7 @@ fn five_bytes(rt: &HostRuntime) {
     byte(rt, field[2]);
     byte(rt, field[3]);
     byte(rt, field[4]);
-    print(rt, b", answer");
-    byte(rt, answer);
+    answered(rt, answer);
     end_line(rt);
 }
 
