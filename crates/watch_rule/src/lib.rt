@@ -2,7 +2,7 @@
 // specs/Rules.antt, what is promised of them in specs/Promises.antt.
 #![tactic(auto)]
 
-ghost use Rattle.std.specs.Prelude.{◌≡◌, eqb, pos};
+ghost use Rattle.std.specs.Prelude.{◌≡◌, pos};
 ghost use Rattle.std.specs.Int.Signed.{lt_z};
 ghost use Rattle.watch_rule.specs.Rules.{in_time, rule_of};
 
@@ -10,7 +10,7 @@ ghost use Rattle.watch_rule.specs.Rules.{in_time, rule_of};
 pub const LAST_OF_SCAN: u8 = 10;
 
 // How a scan closes.
-#[derive(Clone, Copy)]
+#[derive(Clone, Copy, Debug, PartialEq, Eq)]
 pub enum Closing {
     ClockBack,
     Late,
@@ -19,16 +19,10 @@ pub enum Closing {
 }
 
 // What an open watch does.
-#[derive(Clone, Copy)]
+#[derive(Clone, Copy, Debug, PartialEq, Eq)]
 pub enum Rule {
     Keeps,
     Closes(Closing),
-}
-
-fn is(a: u8, b: u8) -> bool
-    ensures { result ≡ eqb a b }
-{
-    a == b
 }
 
 fn is_back(d: i64) -> bool
@@ -47,10 +41,10 @@ fn is_late(limit: u32, d: i64) -> bool
 fn in_time(expected: u8, block: u8) -> Rule
     ensures { result ≡ in_time expected block }
 {
-    if !is(block, expected) {
+    if block != expected {
         return Rule::Closes(Closing::Broken);
     }
-    if is(block, LAST_OF_SCAN) {
+    if block == LAST_OF_SCAN {
         return Rule::Closes(Closing::Complete);
     }
     Rule::Keeps

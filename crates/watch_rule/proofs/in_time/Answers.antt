@@ -2,18 +2,19 @@
 -- Assumes nothing.
 use mathlib.Core.Path.{refl, ap}
 use mathlib.Core.Bool.{not}
+use borrow.Author.Tests.{eq-eqb, ne_eqb}
 use Rattle.ground.proofs.LawsChoice.{yes, no}
 use Rattle.watch_rule.specs.Rules.{in_time}
 use Rattle.watch_rule.proofs.in_time.Goals as goal
 
-pub returns-then-not-is : goal.returns-then-not-is
+pub returns-then-block-expected : goal.returns-then-block-expected
 unfolding in_time
-returns-then-not-is c = yes _ (ap not c.is.ensures) (ap not c.if-not-is.true) refl
+returns-then-block-expected c = yes _ refl (ap not (ne_eqb _ _ c.if-block-expected.true)) refl
 
-pub returns-then-is : goal.returns-then-is
+pub returns-then-block-eq-LAST_OF_SCAN : goal.returns-then-block-eq-LAST_OF_SCAN
 unfolding in_time
-returns-then-is c = no _ (ap not c.is.ensures) (ap not c.if-not-is.false) (yes _ c.is-2.ensures c.if-is.true refl)
+returns-then-block-eq-LAST_OF_SCAN c = no _ refl (ap not (eq-eqb _ _ c.if-block-expected.false)) (yes _ refl (eq-eqb _ 10 c.if-block-eq-LAST_OF_SCAN.true) refl)
 
 pub returns : goal.returns
 unfolding in_time
-returns c = no _ (ap not c.is.ensures) (ap not c.if-not-is.false) (no _ c.is-2.ensures c.if-is.false refl)
+returns c = no _ refl (ap not (eq-eqb _ _ c.if-block-expected.false)) (no _ refl (ne_eqb _ 10 c.if-block-eq-LAST_OF_SCAN.false) refl)
