@@ -70,7 +70,7 @@ pub fn to_visible(n: Infrared) -> Visible
 fn is_scan(n: Infrared) -> bool
     ensures { result ≡ is_scan n.0 }
 {
-    (NARROWEST <= n.0) & (n.0 <= WIDEST)
+    matches!(n.0, NARROWEST..=WIDEST)
 }
 
 // The words of this size that fill the field of blocks 0 and 11.
@@ -79,7 +79,7 @@ fn fixed_row(size: u8) -> Row
     ensures { result ≡ fixed_row size }
 {
     Row {
-        size: size,
+        size,
         records: 0,
         fixed: FIXED_BITS / size as u32,
         each: 0,
@@ -90,9 +90,10 @@ fn records_in_2(version: u8) -> u8
     ensures { result ≡ records_in 2 version }
 {
     if version < EIGHTH_DETECTOR_VERSION {
-        return 3;
+        3
+    } else {
+        4
     }
-    4
 }
 
 fn infrared_row(records: u8) -> Row
@@ -100,7 +101,7 @@ fn infrared_row(records: u8) -> Row
 {
     Row {
         size: IMAGE_SIZE,
-        records: records,
+        records,
         fixed: records as u32 * LINE_WORDS,
         each: records as u32,
     }
@@ -186,12 +187,8 @@ fn field_bits(block: u8, words: u32) -> usize
     if (block == 0) | (block == 11) {
         return FIXED_BITS as usize;
     }
-    let units = (words as usize * IMAGE_SIZE as usize + (UNIT_BITS - 1)) / UNIT_BITS;
-    let bits = units * UNIT_BITS;
-    if bits < SHORTEST_BITS {
-        return SHORTEST_BITS;
-    }
-    bits
+    let bits = words as usize * IMAGE_SIZE as usize;
+    SHORTEST_BITS.max(bits.next_multiple_of(UNIT_BITS))
 }
 
 // The bytes of the field of a block with so many words; in blocks 0 and 11 it is fixed.

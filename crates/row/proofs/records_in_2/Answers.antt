@@ -7,5 +7,5 @@ use Rattle.row.proofs.records_in_2.Goals as goal
 pub returns-then-version-lt-EIGHTH_DETECTOR_VERSION : goal.returns-then-version-lt-EIGHTH_DETECTOR_VERSION
 returns-then-version-lt-EIGHTH_DETECTOR_VERSION c = before_3 c.args.version (omega (arith, c.if-version-lt-EIGHTH_DETECTOR_VERSION.true))
 
-pub returns : goal.returns
-returns c = from_3 c.args.version c.if-version-lt-EIGHTH_DETECTOR_VERSION.false
+pub returns-else-version-lt-EIGHTH_DETECTOR_VERSION : goal.returns-else-version-lt-EIGHTH_DETECTOR_VERSION
+returns-else-version-lt-EIGHTH_DETECTOR_VERSION c = from_3 c.args.version c.if-version-lt-EIGHTH_DETECTOR_VERSION.false
