@@ -1,14 +1,17 @@
 -- A word of 64 bits stands for a register, and `folded` and `finished` do to it what 64 zeros and the end do to that. Both sides are
 -- linear, so each law is a test at the 64 powers of two.
 -- Assumes nothing.
-use mathlib.Core.Path.{◌≡◌, refl, sym, ap, ◌∙◌, subst}
+use mathlib.Core.Path.{◌≡◌, refl, sym, ap, ◌∙◌, subst, subst⁻¹}
 use mathlib.Core.List.{List, [], ◌∷◌, ◌++◌}
 use Prim.Native.Nat.{ℕ, zero, suc, ◌+◌, ◌*◌, ◌/◌, ◌%◌, ◌^◌, ◌<◌, ◌≤◌}
-use native.Mathlib.Nat.{mod-lt, lt_of_le_of_lt, lt_of_lt_of_le, le_of_eq, zero-lt-suc}
+use native.Mathlib.Nat.{mod-lt, zero-mul, suc-mul, lt_of_le_of_lt, lt_of_lt_of_le, le_of_eq, zero-lt-suc}
 use native.Mathlib.Omega.{arith}
 use lib.Dec.{T, lit<}
 use lib.Arith.{digits_lt}
-use lib.ListN.{length, take, drop, take-append-drop}
+use lib.ListN.{length, get_or, take, drop, take-append-drop}
+use Rattle.std.specs.Int.{from_be_bytes, w64}
+use Rattle.std.specs.Simd.{first_chunks}
+use Rattle.std.proofs.lemmas.List.{drop-drop}
 use lib.Pow.{pow_pos, pow-add, shr_le}
 use lib.Bits.{bit_xor, xor_lt, xor_zero_r}
 use Rattle.bits.specs.Bits.{bits, spell, sent, Below}
@@ -136,14 +139,19 @@ pub starts : (s : List ℕ) → Stands 0xFFFF s 0 33999
 unfolding bits spell fed feed after
 starts s = (lit< tt, refl)
 
+-- what is left is fed behind the word that stands
+pub checks_behind : (r : ℕ) (s : List ℕ) (i t : ℕ) → Stands r s i t → check_from t (drop i s) ≡ bit_xor (feed generator r (sent s)) 0xFFFF
+unfolding check_from
+checks_behind r s i t st =
+    ap (λ (x : ℕ). bit_xor (feed generator x (sent (drop i s))) 0xFFFF) st.1
+    ∙ ap (λ (x : ℕ). bit_xor x 0xFFFF)
+    (sym (feed_append generator r (sent (take i s)) (sent (drop i s)))
+    ∙ ap (feed generator r) (sym (spell_append 8 (take i s) (drop i s)) ∙ ap sent (take-append-drop i s)))
+
 -- the check word is known from the word that stands and the bytes that are left
 pub checks : (s : List ℕ) (i t : ℕ) → Stands 0xFFFF s i t → check_from t (drop i s) ≡ check_word s
-unfolding check_from check_by
-checks s i t st =
-    ap (λ (r : ℕ). bit_xor (feed generator r (sent (drop i s))) 0xFFFF) st.1
-    ∙ ap (λ (r : ℕ). bit_xor r 0xFFFF)
-    (sym (feed_append generator 0xFFFF (sent (take i s)) (sent (drop i s)))
-    ∙ ap (feed generator 0xFFFF) (sym (spell_append 8 (take i s) (drop i s)) ∙ ap sent (take-append-drop i s)))
+unfolding check_by
+checks s i t st = checks_behind 0xFFFF s i t st
 
 -- ---- one byte
 
@@ -182,6 +190,18 @@ unfolding after
 after_big r xs e h =
     let e' : 64 ≡ 8 * length xs = omega arith in
     ap (λ (n : ℕ). feed generator r (bits n (big xs))) e' ∙ ap (feed generator r) (bits_big xs h)
+
+-- the eight bytes that the library reads as one number
+pub from_bytes : (s : List ℕ) (i : ℕ) → i + 8 ≤ length s → from_be_bytes w64 (take 8 (drop i s)) ≡ big (take 8 (drop i s))
+from_bytes s i h = subst⁻¹ (λ (p : List ℕ). from_be_bytes w64 p ≡ big p) (part_eight s i h) (omega arith)
+
+-- a chunk is a part of the string
+pub chunk_at : (n k : ℕ) (s : List ℕ) (i : ℕ) → i < k → get_or (first_chunks n k s) i [] ≡ take n (drop (i * n) s)
+chunk_at n zero s i h = absurd (omega arith)
+chunk_at n (suc k) s zero h = ap (λ (j : ℕ). take n (drop j s)) (sym (zero-mul n))
+chunk_at n (suc k) s (suc i) h =
+    let e : n + i * n ≡ suc i * n = omega (arith, suc-mul i n) in
+    chunk_at n k (drop n s) i (omega arith) ∙ ap (take n) (drop-drop (i * n) n s) ∙ ap (λ (j : ℕ). take n (drop j s)) e
 
 -- eight bytes more
 pub joined_lt : (s w : ℕ) → s < 2 ^ 64 → w < 2 ^ 64 → joined s w < 2 ^ 64

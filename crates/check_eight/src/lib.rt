@@ -27,32 +27,6 @@ fn finish(s: u64) -> u16
     ((d ^ ((d << 5) ^ (d << 12))) % 65536) as u16
 }
 
-// Eight bytes as a number, the first one highest.
-fn number_of(a: u8, b: u8, c: u8, d: u8, e: u8, f: u8, g: u8, h: u8) -> u64
-    ensures { result ≡ big (a ∷ b ∷ c ∷ d ∷ e ∷ f ∷ g ∷ h ∷ []) }
-{
-    let high = ((a as u64 * 256 + b as u64) * 256 + c as u64) * 256 + d as u64;
-    let low = ((e as u64 * 256 + f as u64) * 256 + g as u64) * 256 + h as u64;
-    high * 4294967296 + low
-}
-
-// The eight bytes of `s` from `i` on, as a number.
-fn load(s: &[u8], i: usize) -> u64
-    requires { i + 8 ≤ length s.now }
-    ensures { result ≡ big (take 8 (drop i s.now)) }
-{
-    number_of(
-        s[i],
-        s[i + 1],
-        s[i + 2],
-        s[i + 3],
-        s[i + 4],
-        s[i + 5],
-        s[i + 6],
-        s[i + 7],
-    )
-}
-
 // The register after one byte more.
 fn next(r: u16, b: u8) -> u16
     ensures { result ≡ feed generator r (bits 8 b) }
@@ -73,16 +47,14 @@ pub fn word_behind(t: u64, w: u64) -> u64
 pub fn check_from(t: u64, rest: &[u8]) -> u16
     ensures { result ≡ check_from t rest.now }
 {
+    let (eights, tail) = rest.as_chunks::<8>();
     let mut w = t;
-    let mut i = 0;
-    while i + 8 <= rest.len() {
-        w = word_behind(w, load(rest, i));
-        i += 8;
+    for eight in eights {
+        w = word_behind(w, u64::from_be_bytes(*eight));
     }
     let mut r = finish(w);
-    while i < rest.len() {
-        r = next(r, rest[i]);
-        i += 1;
+    for byte in tail {
+        r = next(r, *byte);
     }
     r ^ 0xFFFF
 }
