@@ -1,13 +1,14 @@
 -- The walks over a list of leap days: what one day adds to whether it has a day, how many of its days are before one, and whether it rises.
 -- Assumes nothing.
-use mathlib.Core.Path.{◌≡◌, sym, ap, ◌∙◌}
+use mathlib.Core.Path.{◌≡◌, refl, sym, ◌∙◌}
 use Prim.Native.Nat.{ℕ, suc, ◌+◌, ◌≤◌, ◌<◌}
 use native.Mathlib.Omega.{arith}
 use mathlib.Core.Bool.{Bool, true, false, ◌&&◌, ◌||◌}
 use mathlib.Core.List.{List}
 use lib.Dec.{eqb}
+use mir.Val.{bool_byte}
 use lib.ListN.{length, get_or, take, drop}
-use lib.Seq.{length-take-le, take_all}
+use lib.Seq.{take_all}
 use Rattle.ground.specs.Choice.{pick}
 use Rattle.ground.proofs.LawsTests.{or_assoc, or_false}
 use Rattle.ground.proofs.LawsWalk as Walk
@@ -17,6 +18,10 @@ use Rattle.calendar.specs.Leaps.{most_leaps, follows, rises_from, listed, counts
 pub at_most_1 : (t : Bool) → pick t 1 0 ≤ 1
 at_most_1 true = omega arith
 at_most_1 false = omega arith
+
+pub as_one : (t : Bool) → bool_byte t ≡ pick t 1 0
+as_one true = refl
+as_one false = refl
 
 module _ (leaps : List ℕ) (n : ℕ) where
   -- ---- whether it has a day
@@ -85,12 +90,3 @@ module _ (leaps : List ℕ) where
 
 pub firsts : (leaps : List ℕ) → length leaps ≤ most_leaps → take most_leaps leaps ≡ leaps
 firsts leaps h = take_all most_leaps leaps h
-
--- a count among the first days, of a longer list and of one that has no more
-module _ (leaps : List ℕ) {r m n : ℕ} (e : m ≡ n) where
-  pub among_first : most_leaps < length leaps → (r ≡ listed_before (take most_leaps leaps) m) × (r ≤ length (take most_leaps leaps))
-      → (r ≡ listed_before (take most_leaps leaps) n) × (r ≤ most_leaps)
-  among_first h k = (k.0 ∙ ap (listed_before (take most_leaps leaps)) e, omega (arith, k.1, length-take-le most_leaps leaps (omega arith)))
-
-  pub among_all : length leaps ≤ most_leaps → (r ≡ listed_before leaps m) × (r ≤ length leaps) → (r ≡ listed_before (take most_leaps leaps) n) × (r ≤ most_leaps)
-  among_all h k = (k.0 ∙ (λ i. listed_before (sym (firsts leaps h) i) (e i)), omega (arith, k.1))

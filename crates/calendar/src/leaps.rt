@@ -1,6 +1,5 @@
 // Lists of leap days. Each walk is over at most the days that are lent.
 ghost use Rattle.std.specs.Prelude.{◌≡◌, ◌+◌, ◌*◌, ◌≤◌, length, take};
-ghost use Rattle.ground.specs.Choice.{pick};
 ghost use Rattle.calendar.specs.Leaps.{most_leaps, day_of, possible, follows, rises_from, good_list, listed, counts_for, listed_before};
 
 use crate::years;
@@ -40,15 +39,12 @@ fn follows(before: u32, number: u32) -> bool
 fn rises(leaps: &[u32]) -> bool
     ensures { result ≡ rises_from 0 leaps.now }
 {
-    let mut before: u32 = 0;
-    let mut i: usize = 0;
-    while i < leaps.len() {
-        let number = leaps[i];
-        if !follows(before, number) {
+    let mut before = 0;
+    for day in leaps {
+        if !follows(before, *day) {
             return false;
         }
-        before = number;
-        i += 1;
+        before = *day;
     }
     true
 }
@@ -57,10 +53,7 @@ fn rises(leaps: &[u32]) -> bool
 pub fn is_good_list(leaps: &[u32]) -> bool
     ensures { result ≡ good_list leaps.now }
 {
-    if MOST_LEAP_DAYS < leaps.len() {
-        return false;
-    }
-    rises(leaps)
+    leaps.len() <= MOST_LEAP_DAYS && rises(leaps)
 }
 
 // No way out before the end: so the loop runs on many days at a time, and so does that of `count_before`.
@@ -68,10 +61,8 @@ fn holds(leaps: &[u32], number: u32) -> bool
     ensures { result ≡ listed leaps.now number }
 {
     let mut found = false;
-    let mut i: usize = 0;
-    while i < leaps.len() {
-        found = found | (leaps[i] == number);
-        i += 1;
+    for day in leaps {
+        found |= *day == number;
     }
     found
 }
@@ -83,20 +74,12 @@ fn counts_for(day: u32, number: u32) -> bool
     day < number
 }
 
-fn one_before(day: u32, number: u32) -> u64
-    ensures { result ≡ pick (counts_for day number) 1 0 }
-{
-    if counts_for(day, number) { 1 } else { 0 }
-}
-
 fn count_before(leaps: &[u32], number: u32) -> u64
     ensures { (result ≡ listed_before leaps.now number) × (result ≤ length leaps.now) }
 {
-    let mut count: u64 = 0;
-    let mut i: usize = 0;
-    while i < leaps.len() {
-        count += one_before(leaps[i], number);
-        i += 1;
+    let mut count = 0;
+    for day in leaps {
+        count += u64::from(counts_for(*day, number));
     }
     count
 }
@@ -112,9 +95,6 @@ pub fn is_listed(leaps: &[u32], year: u16, day: u16) -> bool
 pub fn listed_before(leaps: &[u32], year: u16, day: u16) -> u64
     ensures { (result ≡ listed_before (take most_leaps leaps.now) (day_of year day)) × (result ≤ most_leaps) }
 {
-    let number = number_of(year, day);
-    if MOST_LEAP_DAYS < leaps.len() {
-        return count_before(&leaps[..MOST_LEAP_DAYS], number);
-    }
-    count_before(leaps, number)
+    let first = MOST_LEAP_DAYS.min(leaps.len());
+    count_before(&leaps[..first], number_of(year, day))
 }
