@@ -3,11 +3,15 @@
 -- Assumes nothing.
 use mathlib.Core.Path.{◌≡◌, refl, sym, ap, ap₂, ◌∙◌, subst, subst⁻¹}
 use mathlib.Core.List.{List, [], ◌∷◌, ◌++◌}
-use Prim.Native.Nat.{ℕ, zero, suc, ◌+◌, ◌*◌, ◌/◌, ◌%◌, ◌^◌, ◌<◌, ◌≤◌}
+use Prim.Native.Nat.{ℕ, zero, suc, ◌+◌, ◌-◌, ◌*◌, ◌/◌, ◌%◌, ◌^◌, ◌<◌, ◌≤◌}
 use native.Mathlib.Nat.{mod-lt, add-zero, lt_of_lt_of_le}
 use native.Mathlib.Omega.{arith}
 use lib.Dec.{T}
-use lib.ListN.{length, take, drop}
+use Rattle.std.specs.Int.{to_le_bytes, from_le_bytes, swap_bytes, w64}
+use Rattle.std.specs.Simd.{first_chunks}
+use Rattle.std.proofs.lemmas.Nat.{le_bytes_8}
+use Rattle.std.proofs.lemmas.List.{drop-drop, drop-take, take-take}
+use lib.ListN.{length, get_or, take, drop}
 use lib.Pow.{pow_pos, pow_mono}
 use lib.Bits.{bit_xor, xor_lt, xor_comm, xor_zero_r, xor_shifted}
 use Rattle.bits.specs.Bits.{Below}
@@ -15,8 +19,8 @@ use Rattle.check_eight.specs.Eight.{big, folded, joined, Stands}
 use Rattle.check_window.specs.Turn.{byte_at, mirror, mirrors, shown, push, pushes, horner, chunks}
 use Rattle.check_window.specs.declared.Window.{Window}
 use Rattle.check_rule.proofs.LawsXor.{xor_assoc}
-use Rattle.check_eight.proofs.LawsLinear.{Linear, by_basis, agree, agree_at, id_linear, then_linear, sum_linear, shr_linear, mod_linear, shl_linear}
-use Rattle.check_eight.proofs.LawsEight.{folded_linear, starts, big_lt, stands_next}
+use Rattle.check_eight.proofs.LawsLinear.{Linear, by_basis, agree, id_linear, then_linear, sum_linear, shr_linear, mod_linear, shl_linear}
+use Rattle.check_eight.proofs.LawsEight.{folded_linear, starts, big_lt, chunk_at, stands_next}
 
 -- ---- shown as one
 
@@ -116,14 +120,6 @@ mirror_lt x =
     (xor_lt 64 (byte_at 48 8 x) (x / 2 ^ 56 % 2 ^ 8) (mod-lt (x / 2 ^ 48 % 2 ^ 8 * 2 ^ 8) (pow_pos 64))
     (lt_of_lt_of_le (mod-lt (x / 2 ^ 56) (pow_pos 8)) (pow_mono {i = 8} {j = 64} (omega arith)))))))))
 
--- a byte goes to its other place
-moved : (j k : ℕ) → T (agree (λ b. mirror (b * 2 ^ j % 2 ^ 64)) (λ b. b * 2 ^ k) 0 256) → (b : ℕ) → b < 256 → mirror (b * 2 ^ j % 2 ^ 64) ≡ b * 2 ^ k
-moved j k t = agree_at (λ b. mirror (b * 2 ^ j % 2 ^ 64)) (λ b. b * 2 ^ k) 256 t
-
-moved_first : (b : ℕ) → b < 256 → mirror b ≡ b * 2 ^ 56
-unfolding mirror
-moved_first = agree_at mirror (λ b. b * 2 ^ 56) 256 tt
-
 sum : List ℕ → ℕ
 sum [] = 0
 sum (x ∷ xs) = bit_xor (x * 2 ^ (8 * length xs)) (sum xs)
@@ -133,20 +129,33 @@ unfolding sum
 sum_big [] h = refl
 sum_big (x ∷ xs) h = ap (bit_xor (x * 2 ^ (8 * length xs))) (sum_big xs h.1) ∙ xor_shifted x (8 * length xs) (big xs) (big_lt xs h.1)
 
-pub mirror_bytes : (b0 b1 b2 b3 b4 b5 b6 b7 : ℕ) → b0 < 256 → b1 < 256 → b2 < 256 → b3 < 256 → b4 < 256 → b5 < 256 → b6 < 256 → b7 < 256
-    → mirror (bit_xor (b0) (bit_xor (b1 * 2 ^ 8 % 2 ^ 64) (bit_xor (b2 * 2 ^ 16 % 2 ^ 64) (bit_xor (b3 * 2 ^ 24 % 2 ^ 64) (bit_xor (b4 * 2 ^ 32 % 2 ^ 64) (bit_xor (b5 * 2 ^ 40 % 2 ^ 64) (bit_xor (b6 * 2 ^ 48 % 2 ^ 64) (b7 * 2 ^ 56 % 2 ^ 64)))))))) ≡ big (b0 ∷ b1 ∷ b2 ∷ b3 ∷ b4 ∷ b5 ∷ b6 ∷ b7 ∷ [])
+-- the other order of the bytes is that of the library
+spread : (x : ℕ) → mirror x ≡ sum (to_le_bytes w64 x)
 unfolding sum mirror
-mirror_bytes b0 b1 b2 b3 b4 b5 b6 b7 hb0 hb1 hb2 hb3 hb4 hb5 hb6 hb7 =
-    mirror_linear (b0) (bit_xor (b1 * 2 ^ 8 % 2 ^ 64) (bit_xor (b2 * 2 ^ 16 % 2 ^ 64) (bit_xor (b3 * 2 ^ 24 % 2 ^ 64) (bit_xor (b4 * 2 ^ 32 % 2 ^ 64) (bit_xor (b5 * 2 ^ 40 % 2 ^ 64) (bit_xor (b6 * 2 ^ 48 % 2 ^ 64) (b7 * 2 ^ 56 % 2 ^ 64))))))) ∙ ap (bit_xor (mirror (b0))) (mirror_linear (b1 * 2 ^ 8 % 2 ^ 64) (bit_xor (b2 * 2 ^ 16 % 2 ^ 64) (bit_xor (b3 * 2 ^ 24 % 2 ^ 64) (bit_xor (b4 * 2 ^ 32 % 2 ^ 64) (bit_xor (b5 * 2 ^ 40 % 2 ^ 64) (bit_xor (b6 * 2 ^ 48 % 2 ^ 64) (b7 * 2 ^ 56 % 2 ^ 64)))))) ∙ ap (bit_xor (mirror (b1 * 2 ^ 8 % 2 ^ 64))) (mirror_linear (b2 * 2 ^ 16 % 2 ^ 64) (bit_xor (b3 * 2 ^ 24 % 2 ^ 64) (bit_xor (b4 * 2 ^ 32 % 2 ^ 64) (bit_xor (b5 * 2 ^ 40 % 2 ^ 64) (bit_xor (b6 * 2 ^ 48 % 2 ^ 64) (b7 * 2 ^ 56 % 2 ^ 64))))) ∙ ap (bit_xor (mirror (b2 * 2 ^ 16 % 2 ^ 64))) (mirror_linear (b3 * 2 ^ 24 % 2 ^ 64) (bit_xor (b4 * 2 ^ 32 % 2 ^ 64) (bit_xor (b5 * 2 ^ 40 % 2 ^ 64) (bit_xor (b6 * 2 ^ 48 % 2 ^ 64) (b7 * 2 ^ 56 % 2 ^ 64)))) ∙ ap (bit_xor (mirror (b3 * 2 ^ 24 % 2 ^ 64))) (mirror_linear (b4 * 2 ^ 32 % 2 ^ 64) (bit_xor (b5 * 2 ^ 40 % 2 ^ 64) (bit_xor (b6 * 2 ^ 48 % 2 ^ 64) (b7 * 2 ^ 56 % 2 ^ 64))) ∙ ap (bit_xor (mirror (b4 * 2 ^ 32 % 2 ^ 64))) (mirror_linear (b5 * 2 ^ 40 % 2 ^ 64) (bit_xor (b6 * 2 ^ 48 % 2 ^ 64) (b7 * 2 ^ 56 % 2 ^ 64)) ∙ ap (bit_xor (mirror (b5 * 2 ^ 40 % 2 ^ 64))) (mirror_linear (b6 * 2 ^ 48 % 2 ^ 64) (b7 * 2 ^ 56 % 2 ^ 64)))))))
-    ∙ ap₂ bit_xor (moved_first b0 hb0)
-    (ap₂ bit_xor (moved 8 48 tt b1 hb1)
-    (ap₂ bit_xor (moved 16 40 tt b2 hb2)
-    (ap₂ bit_xor (moved 24 32 tt b3 hb3)
-    (ap₂ bit_xor (moved 32 24 tt b4 hb4)
-    (ap₂ bit_xor (moved 40 16 tt b5 hb5)
-    (ap₂ bit_xor (moved 48 8 tt b6 hb6)
-    (moved 56 0 tt b7 hb7 ∙ sym (xor_zero_r (b7 * 2 ^ 0)))))))))
-    ∙ sum_big (b0 ∷ b1 ∷ b2 ∷ b3 ∷ b4 ∷ b5 ∷ b6 ∷ b7 ∷ []) (hb0, (hb1, (hb2, (hb3, (hb4, (hb5, (hb6, (hb7, tt))))))))
+spread x =
+    let e0 : x * 2 ^ 56 % 2 ^ 64 ≡ x % 256 * 2 ^ 56 = omega arith in
+    let e1 : byte_at 8 48 x ≡ x / 256 % 256 * 2 ^ 48 = omega arith in
+    let e2 : byte_at 16 40 x ≡ x / 65536 % 256 * 2 ^ 40 = omega arith in
+    let e3 : byte_at 24 32 x ≡ x / 16777216 % 256 * 2 ^ 32 = omega arith in
+    let e4 : byte_at 32 24 x ≡ x / 4294967296 % 256 * 2 ^ 24 = omega arith in
+    let e5 : byte_at 40 16 x ≡ x / 1099511627776 % 256 * 2 ^ 16 = omega arith in
+    let e6 : byte_at 48 8 x ≡ x / 281474976710656 % 256 * 2 ^ 8 = omega arith in
+    let e7 : x / 2 ^ 56 % 2 ^ 8 ≡ bit_xor (x / 72057594037927936 % 256 * 2 ^ 0) 0 = omega arith ∙ sym (xor_zero_r (x / 72057594037927936 % 256 * 2 ^ 0)) in
+    λ i. bit_xor (e0 i) (bit_xor (e1 i) (bit_xor (e2 i) (bit_xor (e3 i) (bit_xor (e4 i) (bit_xor (e5 i) (bit_xor (e6 i) (e7 i)))))))
+
+byte_lt : (n : ℕ) → n % 256 < 256
+byte_lt n = omega arith
+
+mirror_big : (x : ℕ) → mirror x ≡ big (to_le_bytes w64 x)
+mirror_big x =
+    spread x ∙ sum_big (to_le_bytes w64 x)
+    (byte_lt x, (byte_lt (x / 256), (byte_lt (x / 65536), (byte_lt (x / 16777216), (byte_lt (x / 4294967296), (byte_lt (x / 1099511627776), (byte_lt (x / 281474976710656), (byte_lt (x / 72057594037927936), tt))))))))
+
+pub swapped : (x : ℕ) → swap_bytes w64 x ≡ mirror x
+swapped x = omega (arith, mirror_big x)
+
+pub mirror_bytes : (p : List ℕ) (r : ℕ) → length p ≡ 8 → ((i : ℕ) → get_or p i 0 < 256) → r ≡ from_le_bytes w64 p → mirror r ≡ big p
+mirror_bytes p r n low e = mirror_big r ∙ ap big (le_bytes_8 p r n low e)
 
 -- ---- the turn
 
@@ -195,5 +204,22 @@ goes_on n s i w ds low h st e =
 pub cons : {x y : ℕ} {l m : List ℕ} → x ≡ y → l ≡ m → x ∷ l ≡ y ∷ m
 cons p q = ap₂ (λ (x : ℕ) (l : List ℕ). x ∷ l) p q
 
-pub at_zero : (s : List ℕ) (i : ℕ) → big (take 8 (drop i s)) ≡ big (take 8 (drop (i + 0) s))
-at_zero s i = ap (λ (j : ℕ). big (take 8 (drop j s))) (sym (add-zero i))
+-- ---- chunks of the string
+
+word_in : (m : ℕ) (s : List ℕ) (i j : ℕ) → j + 8 ≤ m → take 8 (drop j (take m (drop i s))) ≡ take 8 (drop (i + j) s)
+word_in m s i j h =
+    let r = m - j in
+    let e : m ≡ j + r = omega arith in
+    ap (λ (k : ℕ). take 8 (drop j (take k (drop i s)))) e ∙ ap (take 8) (drop-take j r (drop i s)) ∙ take-take 8 r (drop j (drop i s)) (omega arith)
+    ∙ ap (take 8) (drop-drop j i s)
+
+-- the words of a chunk are those of the string there
+pub chunks_in : (m : ℕ) (s : List ℕ) (i k n : ℕ) → 8 * (k + n) ≤ m → chunks (take m (drop i s)) 0 k n ≡ chunks s i k n
+chunks_in m s i k zero h = refl
+chunks_in m s i k (suc n) h =
+    let z : 0 + 8 * k ≡ 8 * k = omega arith in
+    cons (ap big (ap (λ (j : ℕ). take 8 (drop j (take m (drop i s)))) z ∙ word_in m s i (8 * k) (omega arith))) (chunks_in m s i (suc k) n (omega arith))
+
+-- a word of a chunk, where the chunk is taken as eights
+pub word_at : (p : List ℕ) (ws : List (List ℕ)) (k : ℕ) → ws ≡ first_chunks 8 (length p / 8) p → k < length p / 8 → big (get_or ws k []) ≡ big (take 8 (drop (k * 8) p))
+word_at p ws k e h = ap big (ap (λ (l : List (List ℕ)). get_or l k []) e ∙ chunk_at 8 (length p / 8) p k h)

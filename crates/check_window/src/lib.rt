@@ -95,69 +95,34 @@ fn turn4(w: Window, a: u64, b: u64, c: u64, d: u64) -> Window
 }
 
 // Eight bytes as a number, the first one lowest.
-fn number_of(a: u8, b: u8, c: u8, d: u8, e: u8, f: u8, g: u8, h: u8) -> u64
-    ensures { mirror result ≡ big (a ∷ b ∷ c ∷ d ∷ e ∷ f ∷ g ∷ h ∷ []) }
+fn number_of(word: [u8; 8]) -> u64
+    ensures { mirror result ≡ big word }
 {
-    a as u64
-        ^ ((b as u64) << 8
-            ^ ((c as u64) << 16
-                ^ ((d as u64) << 24
-                    ^ ((e as u64) << 32
-                        ^ ((f as u64) << 40 ^ ((g as u64) << 48 ^ (h as u64) << 56))))))
+    u64::from_le_bytes(word)
 }
 
-// The eight bytes of `s` from `i` on, the first of them lowest.
-fn load(s: &[u8], i: usize) -> u64
-    requires { i + 8 ≤ length s.now }
-    ensures { mirror result ≡ big (take 8 (drop i s.now)) }
+// The 128 bytes of a turn, as words.
+fn block(bytes: &[u8; 128]) -> Window
+    ensures { shown result ≡ chunks bytes.now 0 0 16 }
 {
-    number_of(
-        s[i],
-        s[i + 1],
-        s[i + 2],
-        s[i + 3],
-        s[i + 4],
-        s[i + 5],
-        s[i + 6],
-        s[i + 7],
-    )
-}
-
-// The bytes of `x` in the other order.
-fn swap(x: u64) -> u64
-    ensures { result ≡ mirror x }
-{
-    (x << 56)
-        ^ ((((x >> 8) % 256) << 48)
-            ^ ((((x >> 16) % 256) << 40)
-                ^ ((((x >> 24) % 256) << 32)
-                    ^ ((((x >> 32) % 256) << 24)
-                        ^ ((((x >> 40) % 256) << 16)
-                            ^ ((((x >> 48) % 256) << 8) ^ (((x >> 56) % 256))))))))
-}
-
-// The 128 bytes of `s` from `i` on, as words.
-fn block(s: &[u8], i: usize) -> Window
-    requires { i + 128 ≤ length s.now }
-    ensures { shown result ≡ chunks s.now i 0 16 }
-{
+    let (w, _) = bytes.as_chunks::<8>();
     Window {
-        s0: load(s, i + 0),
-        s1: load(s, i + 8),
-        s2: load(s, i + 16),
-        s3: load(s, i + 24),
-        s4: load(s, i + 32),
-        s5: load(s, i + 40),
-        s6: load(s, i + 48),
-        s7: load(s, i + 56),
-        s8: load(s, i + 64),
-        s9: load(s, i + 72),
-        s10: load(s, i + 80),
-        s11: load(s, i + 88),
-        s12: load(s, i + 96),
-        s13: load(s, i + 104),
-        s14: load(s, i + 112),
-        s15: load(s, i + 120),
+        s0: number_of(w[0]),
+        s1: number_of(w[1]),
+        s2: number_of(w[2]),
+        s3: number_of(w[3]),
+        s4: number_of(w[4]),
+        s5: number_of(w[5]),
+        s6: number_of(w[6]),
+        s7: number_of(w[7]),
+        s8: number_of(w[8]),
+        s9: number_of(w[9]),
+        s10: number_of(w[10]),
+        s11: number_of(w[11]),
+        s12: number_of(w[12]),
+        s13: number_of(w[13]),
+        s14: number_of(w[14]),
+        s15: number_of(w[15]),
     }
 }
 
@@ -165,22 +130,22 @@ fn block(s: &[u8], i: usize) -> Window
 fn last(w: Window) -> u64
     ensures { result ≡ horner 0 (shown w) }
 {
-    let t0 = word_behind(0, swap(w.s0));
-    let t1 = word_behind(t0, swap(w.s1));
-    let t2 = word_behind(t1, swap(w.s2));
-    let t3 = word_behind(t2, swap(w.s3));
-    let t4 = word_behind(t3, swap(w.s4));
-    let t5 = word_behind(t4, swap(w.s5));
-    let t6 = word_behind(t5, swap(w.s6));
-    let t7 = word_behind(t6, swap(w.s7));
-    let t8 = word_behind(t7, swap(w.s8));
-    let t9 = word_behind(t8, swap(w.s9));
-    let t10 = word_behind(t9, swap(w.s10));
-    let t11 = word_behind(t10, swap(w.s11));
-    let t12 = word_behind(t11, swap(w.s12));
-    let t13 = word_behind(t12, swap(w.s13));
-    let t14 = word_behind(t13, swap(w.s14));
-    word_behind(t14, swap(w.s15))
+    let t0 = word_behind(0, w.s0.swap_bytes());
+    let t1 = word_behind(t0, w.s1.swap_bytes());
+    let t2 = word_behind(t1, w.s2.swap_bytes());
+    let t3 = word_behind(t2, w.s3.swap_bytes());
+    let t4 = word_behind(t3, w.s4.swap_bytes());
+    let t5 = word_behind(t4, w.s5.swap_bytes());
+    let t6 = word_behind(t5, w.s6.swap_bytes());
+    let t7 = word_behind(t6, w.s7.swap_bytes());
+    let t8 = word_behind(t7, w.s8.swap_bytes());
+    let t9 = word_behind(t8, w.s9.swap_bytes());
+    let t10 = word_behind(t9, w.s10.swap_bytes());
+    let t11 = word_behind(t10, w.s11.swap_bytes());
+    let t12 = word_behind(t11, w.s12.swap_bytes());
+    let t13 = word_behind(t12, w.s13.swap_bytes());
+    let t14 = word_behind(t13, w.s14.swap_bytes());
+    word_behind(t14, w.s15.swap_bytes())
 }
 
 // The word 15 of a window that stands for a register with all its bits set, the other words zero.
@@ -214,20 +179,20 @@ pub fn check_by_turn(message: &[u8]) -> u16
         s14: 0,
         s15: ALL_ONES,
     };
-    let mut i = 0;
-    while i + 128 <= message.len() {
-        w = turn(w, block(message, i));
-        i += 128;
+    let (turns, rest) = message.as_chunks::<128>();
+    for bytes in turns {
+        w = turn(w, block(bytes));
     }
-    while i + 32 <= message.len() {
+    let (fours, rest) = rest.as_chunks::<32>();
+    for bytes in fours {
+        let (d, _) = bytes.as_chunks::<8>();
         w = turn4(
             w,
-            load(message, i),
-            load(message, i + 8),
-            load(message, i + 16),
-            load(message, i + 24),
+            number_of(d[0]),
+            number_of(d[1]),
+            number_of(d[2]),
+            number_of(d[3]),
         );
-        i += 32;
     }
-    check_from(last(w), &message[i..])
+    check_from(last(w), rest)
 }
