@@ -1,19 +1,8 @@
 // Bytes laid into lent room, from a place on. What is put together from bytes is made of it.
 #![tactic(auto)]
 
-ghost use Rattle.std.specs.Prelude.{◌≡◌, ◌+◌, ◌≤◌, length};
-ghost use Rattle.room.specs.Laid.{laid, inside, laid_inside};
-
-fn lay_each(bytes: &[u8], room: &mut [u8], at: usize)
-    requires { at + length bytes.now ≤ length room.old }
-    ensures { room.new ≡ laid room.old at bytes.now }
-{
-    let mut i: usize = 0;
-    while i < bytes.len() {
-        room[at + i] = bytes[i];
-        i += 1;
-    }
-}
+ghost use Rattle.std.specs.Prelude.{◌≡◌};
+ghost use Rattle.room.specs.Laid.{inside, laid_inside};
 
 // Lays the bytes into the room from `at` on. Where they would not end inside it, the answer is false and the room is as it was.
 pub fn lay(bytes: &[u8], room: &mut [u8], at: usize) -> bool
@@ -26,6 +15,6 @@ pub fn lay(bytes: &[u8], room: &mut [u8], at: usize) -> bool
     if room.len() - at < bytes.len() {
         return false;
     }
-    lay_each(bytes, room, at);
+    room[at..at + bytes.len()].copy_from_slice(bytes);
     true
 }
