@@ -57,7 +57,7 @@ eight_sum : (a b c d e f g h : ℕ)
     ≡ behind 0 (a ∷ b ∷ c ∷ d ∷ e ∷ f ∷ g ∷ h ∷ [])
 eight_sum a b c d e f g h = omega arith
 
--- its bytes the other way round, as the code has them
+-- its bytes the other way round, two halves of four bytes
 abbrev pub eight_turned : ℕ → ℕ
 eight_turned x =
     (x % 256 * 2 ^ 24 + x / 256 % 256 * 2 ^ 16 + x / 2 ^ 16 % 256 * 256 + x / 2 ^ 24 % 256) * 2 ^ 32

@@ -1,24 +1,23 @@
--- The laws of `allZero` and `all_fit`, and where the fill begins: within a byte, or at its first bit.
+-- The laws of `all_zero` and `all_fit`, and where the fill begins: within a byte, or at its first bit.
 -- Assumes nothing.
 use mathlib.Core.Path.{◌≡◌, refl, sym, ap, ap₂, ◌∙◌}
 use mathlib.Core.Bool.{Bool, true, false, ◌&&◌}
 use mathlib.Core.List.{List, [], ◌∷◌, ◌++◌, append_assoc}
 use Prim.Native.Nat.{ℕ, zero, suc, ◌+◌, ◌-◌, ◌*◌, ◌/◌, ◌%◌, ◌^◌, ◌≤◌, ◌<◌}
 use native.Mathlib.Nat.{mod-lt, mod-eq_of_lt}
-use native.Mathlib.Numerals.{add-one}
 use native.Mathlib.Omega.{arith}
-use borrow.Author.Tests.{eq-eqb, ne_eqb, eqb-true, lt-ltb, le-ltb, ltb-true}
+use borrow.Author.Tests.{eq-eqb, ne_eqb, eqb-true, lt-ltb, ltb-true}
 use lib.Dec.{eqb, ltb}
-use lib.ListN.{length, get_or, take, drop, replicate, take-append-drop, drop_of_length-le}
-use lib.Seq.{drop_at, drop-drop, drop-cons, take-suc}
+use lib.ListN.{length, get_or, drop, replicate, drop_of_length-le}
+use lib.Seq.{drop_at, drop-drop}
 use lib.Bits.{bit_or, or_lt, or_add_and, and_le_l, and_le_r}
 use lib.Pow.{pow_pos}
+use Rattle.std.specs.List.{fold}
 use Rattle.ground.proofs.LawsTests.{both, first, second, and_true, and_assoc}
 use Rattle.bits.specs.Bits.{bits, value, sent, Below}
 use Rattle.bits.specs.Fields.{fill_of, all_zero, all_fit}
-use Rattle.bits.proofs.LawsBelow.{below_at}
 use Rattle.bits.proofs.LawsBits.{length_bits, bits_split, bits_zero, value_bits}
-use Rattle.bits.proofs.LawsWords.{length_spell, spell_next, spell_nil, drop_spell}
+use Rattle.bits.proofs.LawsWords.{length_spell, spell_next, spell_nil, spell_cons, drop_spell}
 
 pub zero_all : (bs : List ℕ) → all_zero bs ≡ true → bs ≡ replicate (length bs) 0
 unfolding all_zero
@@ -31,21 +30,10 @@ unfolding all_zero
 all_zero_is zero = refl
 all_zero_is (suc k) = all_zero_is k
 
--- a test of every number of a list, `one` of each: joined lists pass where each of the two does
-module _ (one : ℕ → Bool) (all : List ℕ → Bool) (none : all [] ≡ true) (more : (x : ℕ) (xs : List ℕ) → all (x ∷ xs) ≡ one x && all xs) where
-  all_append : (xs ys : List ℕ) → all (xs ++ ys) ≡ all xs && all ys
-  all_append [] ys = sym (ap (λ (t : Bool). t && all ys) none)
-  all_append (x ∷ xs) ys =
-      more x (xs ++ ys) ∙ ap (λ (t : Bool). one x && t) (all_append xs ys)
-      ∙ sym (ap (λ (t : Bool). t && all ys) (more x xs) ∙ and_assoc (one x) (all xs) (all ys))
-
 zero_append : (xs ys : List ℕ) → all_zero (xs ++ ys) ≡ all_zero xs && all_zero ys
 unfolding all_zero
-zero_append = all_append (λ x. eqb x 0) all_zero refl (λ x xs. refl)
-
-fit_append : (size : ℕ) (xs ys : List ℕ) → all_fit size (xs ++ ys) ≡ all_fit size xs && all_fit size ys
-unfolding all_fit
-fit_append size = all_append (λ w. ltb w (2 ^ size)) (all_fit size) refl (λ w ws. refl)
+zero_append [] ys = refl
+zero_append (x ∷ xs) ys = ap (λ (t : Bool). eqb x 0 && t) (zero_append xs ys) ∙ sym (and_assoc (eqb x 0) (all_zero xs) (all_zero ys))
 
 -- two tests that hold together are one
 pub same_tests : (t u : Bool) → (t ≡ true → u ≡ true) → (u ≡ true → t ≡ true) → t ≡ u
@@ -136,73 +124,26 @@ pub fill_none : (size count : ℕ) (field : List ℕ) → length field * 8 ≤ c
 unfolding fill_of all_zero
 fill_none size count field h = let l : length (sent field) ≤ count * size = omega (arith, length_spell 8 field) in ap all_zero (drop_of_length-le (sent field) l)
 
--- ---- a test of every byte, or every word, from k on: that at k, and those behind it
+-- ---- a test of every byte, or of every word, by the bits of all of them joined
 
--- the byte at k is joined to those before it, and the bytes behind it are left
-pub zero_joined : (field : List ℕ) (k any : ℕ) → Below 256 field → k < length field
-    → eqb any 0 && all_zero (sent (drop k field)) ≡ eqb (bit_or any (get_or field k 0)) 0 && all_zero (sent (drop (k + 1) field))
-zero_joined field k any bytes l =
-    let b = get_or field k 0 in
-    let behind = all_zero (sent (drop (k + 1) field)) in
-    ap (λ (t : Bool). eqb any 0 && t)
-    (ap all_zero (spell_next 8 field k l) ∙ zero_append (bits 8 b) _
-    ∙ ap (λ (t : Bool). t && behind) (zero_bits 8 b (below_at 256 field (omega arith) bytes k)))
-    ∙ sym (ap (λ (t : Bool). t && behind) (or_zero any b) ∙ and_assoc (eqb any 0) (eqb b 0) behind)
-
-pub zero_end : (field : List ℕ) (k : ℕ) → length field ≤ k → all_zero (sent (drop k field)) ≡ true
+pub zero_joined : (any : ℕ) (bytes : List ℕ) → Below 256 bytes → eqb (fold bit_or any bytes) 0 ≡ eqb any 0 && all_zero (sent bytes)
 unfolding all_zero
-zero_end field k h = ap (λ (l : List ℕ). all_zero (sent l)) (drop_of_length-le field h) ∙ ap all_zero (spell_nil 8)
+zero_joined any [] h = and_true (eqb any 0) ∙ ap (λ (t : Bool). eqb any 0 && t) (sym (ap all_zero (spell_nil 8)))
+zero_joined any (b ∷ bytes) h =
+    let rest = all_zero (sent bytes) in
+    zero_joined (bit_or any b) bytes h.1
+    ∙ ap (λ (t : Bool). t && rest) (or_zero any b)
+    ∙ and_assoc (eqb any 0) (eqb b 0) rest
+    ∙ ap (λ (t : Bool). eqb any 0 && t)
+    (sym (ap all_zero (spell_cons 8 b bytes) ∙ zero_append (bits 8 b) (sent bytes) ∙ ap (λ (t : Bool). t && rest) (zero_bits 8 b h.0)))
 
-module _ (size : ℕ) (ws : List ℕ) (k : ℕ) (l : k < length ws) where
-  fit_next : all_fit size (drop k ws) ≡ ltb (get_or ws k 0) (2 ^ size) && all_fit size (drop (k + 1) ws)
-  unfolding all_fit
-  fit_next = rw (add-one, drop-cons ws k 0)
-
-  pub fit_stops : 2 ^ size ≤ get_or ws k 0 → all_fit size (drop k ws) ≡ false
-  fit_stops h = fit_next ∙ ap (λ (t : Bool). t && all_fit size (drop (k + 1) ws)) (le-ltb (get_or ws k 0) (2 ^ size) h)
-
-  pub fit_goes_on : get_or ws k 0 < 2 ^ size → all_fit size (drop k ws) ≡ all_fit size (drop (k + 1) ws)
-  fit_goes_on h = fit_next ∙ ap (λ (t : Bool). t && all_fit size (drop (k + 1) ws)) (lt-ltb (get_or ws k 0) (2 ^ size) h)
-
-pub fit_end : (size : ℕ) (ws : List ℕ) (k : ℕ) → length ws ≤ k → all_fit size (drop k ws) ≡ true
+pub fit_joined : (size any : ℕ) (ws : List ℕ) → ltb (fold bit_or any ws) (2 ^ size) ≡ ltb any (2 ^ size) && all_fit size ws
 unfolding all_fit
-fit_end size ws k h = ap (all_fit size) (drop_of_length-le ws h)
-
--- ---- a test of every word by the bits of words joined
-
--- one word more is joined: the bits of all fit exactly where each word does
-pub fit_joined : (size joined i : ℕ) (ws : List ℕ) → i < length ws → ltb joined (2 ^ size) ≡ all_fit size (take i ws)
-    → ltb (bit_or joined (get_or ws i 0)) (2 ^ size) ≡ all_fit size (take (i + 1) ws)
-unfolding all_fit
-fit_joined size joined i ws l e =
-    let w = get_or ws i 0 in
-    or_fits size joined w ∙ ap₂ (λ (t u : Bool). t && u) e (and_true (ltb w (2 ^ size)))
-    ∙ sym (rw (add-one, take-suc ws i 0) (fit_append size (take i ws) (w ∷ [])))
-
--- words in three parts of n and the rest: all fit where the bits of the three parts do, and each word of the rest
-module _ (size n : ℕ) (ws : List ℕ) where
-  fit_part : (at : ℕ) → all_fit size (drop at ws) ≡ all_fit size (take n (drop at ws)) && all_fit size (drop (at + n) ws)
-  fit_part at =
-      ap (all_fit size) (sym (take-append-drop n (drop at ws))) ∙ fit_append size (take n (drop at ws)) (drop n (drop at ws))
-      ∙ ap (λ (l : List ℕ). all_fit size (take n (drop at ws)) && all_fit size l) (drop-drop n at ws)
-
-  pub fit_thirds : (a b c : ℕ) → ltb a (2 ^ size) ≡ all_fit size (take n ws) → ltb b (2 ^ size) ≡ all_fit size (take n (drop n ws))
-      → ltb c (2 ^ size) ≡ all_fit size (take n (drop (2 * n) ws)) → ltb (bit_or (bit_or a b) c) (2 ^ size) && all_fit size (drop (3 * n) ws) ≡ all_fit size ws
-  fit_thirds a b c ea eb ec =
-      let one : 0 + n ≡ n = omega arith in
-      let two : n + n ≡ 2 * n = omega arith in
-      let three : 2 * n + n ≡ 3 * n = omega arith in
-      let fits : ℕ → Bool = λ w. ltb w (2 ^ size) in
-      let rest = all_fit size (drop (3 * n) ws) in
-      cc (
-        or_fits size (bit_or a b) c,
-        or_fits size a b,
-        and_assoc (fits a && fits b) (fits c) rest,
-        and_assoc (fits a) (fits b) (fits c && rest),
-        fit_part 0,
-        fit_part n,
-        fit_part (2 * n),
-      )
+fit_joined size any [] = and_true (ltb any (2 ^ size))
+fit_joined size any (w ∷ ws) =
+    fit_joined size (bit_or any w) ws
+    ∙ ap (λ (t : Bool). t && all_fit size ws) (or_fits size any w)
+    ∙ and_assoc (ltb any (2 ^ size)) (ltb w (2 ^ size)) (all_fit size ws)
 
 -- every word has its size exactly where all of them are below the power
 pub fit_below : (size : ℕ) (ws : List ℕ) → all_fit size ws ≡ true → Below (2 ^ size) ws

@@ -1,20 +1,21 @@
 // The bits behind the last word.
-ghost use Rattle.std.specs.Prelude.{◌≡◌, ◌*◌, ◌≤◌, length, drop};
+ghost use Rattle.std.specs.Prelude.{◌≡◌, ◌*◌, ◌≤◌, length, drop, fold, bit_or};
 ghost use Rattle.bits.specs.Bits.{sent};
 ghost use Rattle.bits.specs.Fields.{fill_of, all_zero};
 
-// Whether all bytes from `start` on are zero: no way out before the end, so that a compiler joins many bytes at a time.
+// The bits of all bytes joined: no way out before the end, so that a compiler joins many bytes at a time.
+fn joined(bytes: &[u8]) -> u8
+    ensures { result ≡ fold bit_or 0 bytes.now }
+{
+    bytes.iter().fold(0, |joined, byte| joined | byte)
+}
+
+// Whether all bytes from `start` on are zero.
 fn zero_from(field: &[u8], start: usize) -> bool
     requires { start ≤ length field.now }
     ensures { result ≡ all_zero (sent (drop start field.now)) }
 {
-    let mut any: u8 = 0;
-    let mut k = start;
-    while k < field.len() {
-        any = any | field[k];
-        k += 1;
-    }
-    any == 0
+    joined(&field[start..]) == 0
 }
 
 // Whether all bits behind words that fit the field are zero: the low bits of the byte in which the last word ends, then whole bytes.

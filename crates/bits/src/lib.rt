@@ -14,22 +14,14 @@ pub mod fitting;
 pub fn two_bytes(high: u8, low: u8) -> u16
     ensures { result ≡ high * 256 + low }
 {
-    high as u16 * 256 + low as u16
+    u16::from_be_bytes([high, low])
 }
 
 // The bytes of `x` in the other order: for a compiler this is one instruction.
 pub fn turned(x: u64) -> u64
     ensures { result ≡ value (sent (digits 256 8 x)) }
 {
-    let high = x % 0x100 * 0x100_0000
-        + (x >> 8) % 0x100 * 0x1_0000
-        + (x >> 16) % 0x100 * 0x100
-        + (x >> 24) % 0x100;
-    let low = (x >> 32) % 0x100 * 0x100_0000
-        + (x >> 40) % 0x100 * 0x1_0000
-        + (x >> 48) % 0x100 * 0x100
-        + (x >> 56) % 0x100;
-    high * 0x1_0000_0000 + low
+    x.swap_bytes()
 }
 
 // Whether every bit behind the first `count` words is zero. Where the words take up the whole field there is none, and it is so.

@@ -40,7 +40,7 @@ pub bounds-field-k : goal.bounds-field-k
 bounds-field-k c = inside c.args.count c.args.size (length c.args.field.now) c.requires.size_in_bounds c.if-inside-eq0.false
 
 pub overflow_cast-low : goal.overflow_cast-low
-overflow_cast-low c = omega (arith, c.shared_slice_known-2-1.given (c.args.count / 8 * c.args.size + c.args.count % 8 * c.args.size / 8))
+overflow_cast-low c = omega (arith, c.type_inv.field (c.args.count / 8 * c.args.size + c.args.count % 8 * c.args.size / 8))
 
 pub nonzero_rem-low : goal.nonzero_rem-low
 nonzero_rem-low c = rw (one_shl 64 (8 - c.args.count % 8 * c.args.size % 8) (omega arith)) (pow_pos _)

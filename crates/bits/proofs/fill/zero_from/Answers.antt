@@ -1,35 +1,19 @@
--- `bits::fill::zero_from` meets its contract: the test of all bytes is that of the bytes joined so far and that of those from k on.
+-- `bits::fill::zero_from` meets its contract: the bits of the bytes joined are zero where those of each byte are.
 -- Assumes nothing.
-use mathlib.Core.Bool.{Bool, ◌&&◌}
-use mathlib.Core.Path.{refl, sym, ap, ◌∙◌}
+use mathlib.Core.Path.{◌∙◌, ap}
 use native.Mathlib.Omega.{arith}
+use Prim.Native.Nat.{ℕ, ◌-◌}
 use lib.Dec.{eqb}
-use Rattle.ground.proofs.LawsTests.{and_true}
-use Rattle.bits.proofs.LawsBelow.{below_all}
-use Rattle.bits.proofs.LawsFill.{zero_joined, zero_end}
+use lib.ListN.{length, drop, length-drop}
+use lib.Seq.{take_all}
+use Rattle.std.specs.Prelude.{fold, bit_or}
+use Rattle.bits.proofs.LawsBelow.{below_all, below_drop}
+use Rattle.bits.proofs.LawsFill.{zero_joined}
 use Rattle.bits.proofs.fill.zero_from.Goals as goal
-
-pub loop-k-init : goal.loop-k-init
-loop-k-init c = (c.requires, refl)
-
-pub bounds-field-k : goal.bounds-field-k
-bounds-field-k c = omega arith
-
-pub overflow_add-k : goal.overflow_add-k
-overflow_add-k c = omega arith
-
-pub loop-k-smaller : goal.loop-k-smaller
-loop-k-smaller c = omega arith
-
-pub loop-k-preserved : goal.loop-k-preserved
-loop-k-preserved c =
-    let field = c.args.field.now in
-    let bytes = below_all 256 field (λ i. (c.shared_slice_known-1.given i).fits) in
-    (omega arith, c.loop-k.invariant.1 ∙ zero_joined field c.loop-k.k c.loop-k.any bytes (omega arith))
 
 pub returns : goal.returns
 returns c =
-    let tested = eqb c.loop-k.any 0 in
-    sym
-    (c.loop-k.invariant.1 ∙ ap (λ (t : Bool). tested && t) (zero_end c.args.field.now c.loop-k.k (omega arith))
-    ∙ sym (and_true tested))
+    let field = c.args.field.now in
+    let behind = drop c.args.start field in
+    ap (λ (n : ℕ). eqb n 0) (c.joined.ensures ∙ ap (fold bit_or 0) (take_all (length field - c.args.start) behind (omega (arith, length-drop c.args.start field))))
+    ∙ zero_joined 0 behind (below_drop 256 c.args.start field (below_all 256 field (λ k. (c.type_inv.field k).fits)))
