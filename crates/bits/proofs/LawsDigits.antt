@@ -1,15 +1,18 @@
 -- Numbers that hold others side by side, and the bytes of a number from either end.
 -- Assumes nothing.
-use mathlib.Core.Path.{◌≡◌, refl, sym, ap, ap₂, ◌∙◌}
+use mathlib.Core.Path.{◌≡◌, refl, sym, ap, ap₂, ◌∙◌, subst}
 use mathlib.Core.List.{List, [], ◌∷◌, ◌++◌, append-nil}
 use Prim.Native.Nat.{ℕ, zero, suc, ◌+◌, ◌*◌, ◌/◌, ◌%◌, ◌^◌, ◌<◌}
 use native.Mathlib.Nat.{suc-mul, add-zero, mod-lt, mod-eq_of_lt, div-one}
 use native.Mathlib.Omega.{arith}
-use lib.ListN.{length}
+use lib.ListN.{length, get_or}
+use lib.Seq.{take_all}
 use lib.Pow.{pow_pos, high, low, shr-shr}
+use Rattle.std.specs.Int.{w64, from_be_bytes}
 use Rattle.bits.specs.Bits.{bits, value, words, sent, Below}
 use Rattle.bits.specs.Digits.{digits}
 use Rattle.bits.proofs.LawsBits.{value_bits, intake}
+use Rattle.bits.proofs.LawsElements.{part_eight}
 use Rattle.bits.proofs.LawsWords.{spell_nil, spell_cons, words_next}
 
 -- ---- digits, the lowest first
@@ -51,6 +54,15 @@ bits_behind_bytes size n (b ∷ bytes) h =
 bits_bytes : (bytes : List ℕ) → Below 256 bytes → sent bytes ≡ bits (0 + length bytes * 8) (behind 0 bytes)
 unfolding bits
 bits_bytes bytes h = bits_behind_bytes 0 0 bytes h
+
+-- the number of eight bytes, the first one highest, as the library has it
+pub bytes_high_first : (bytes : List ℕ) → length bytes ≡ 8 → Below 256 bytes → bits 64 (from_be_bytes w64 bytes) ≡ sent bytes
+bytes_high_first bytes l below =
+    let byte : ℕ → ℕ = λ i. get_or bytes i 0 in
+    let eight = byte 0 ∷ byte 1 ∷ byte 2 ∷ byte 3 ∷ byte 4 ∷ byte 5 ∷ byte 6 ∷ byte 7 ∷ [] in
+    let all : bytes ≡ eight = sym (take_all 8 bytes (omega arith)) ∙ part_eight bytes 0 (omega arith) in
+    let same : from_be_bytes w64 bytes ≡ behind 0 eight = omega arith in
+    ap (bits 64) same ∙ sym (bits_bytes eight (subst (Below 256) all below)) ∙ ap sent (sym all)
 
 eight_sum : (a b c d e f g h : ℕ)
     → (a * 2 ^ 24 + b * 2 ^ 16 + c * 256 + d) * 2 ^ 32 + (e * 2 ^ 24 + f * 2 ^ 16 + g * 256 + h)
@@ -100,9 +112,6 @@ pub turned_value : (x : ℕ) → eight_turned x ≡ value (sent (digits 256 8 x)
 turned_value x =
     let small : eight_turned x < 2 ^ 64 = omega arith in
     sym (mod-eq_of_lt small) ∙ sym (value_bits 64 (eight_turned x)) ∙ ap value (eight_bits x)
-
-pub turned_bits : (x : ℕ) → bits 64 (value (sent (digits 256 8 x))) ≡ sent (digits 256 8 x)
-turned_bits x = ap (bits 64) (sym (turned_value x)) ∙ eight_bits x
 
 pub turned_digits : (x : ℕ) → digits 256 8 (value (sent (digits 256 8 x))) ≡ words 8 8 (bits 64 x)
 turned_digits x = ap (digits 256 8) (sym (turned_value x)) ∙ eight_words x

@@ -3,11 +3,11 @@
 -- Assumes nothing.
 use mathlib.Core.Path.{◌≡◌, refl, sym, ap, ◌∙◌}
 use mathlib.Core.Bool.{Bool, true, false, ◌||◌}
-use mathlib.Core.Logic.{◌⊎◌, inl, inr, ⊎_elim}
+use mathlib.Core.Logic.{◌⊎◌, ⊎_elim}
 use Prim.Native.Nat.{ℕ, zero, ◌+◌, ◌-◌, ◌*◌, ◌/◌, ◌%◌, ◌≤◌, ◌<◌}
 use native.Mathlib.Nat.{mod-lt, div-add-mod', add-mul, mul_assoc, mul_comm, suc-mul, mul-le-mul_right, mul-le-mul_left, mul-le-mul}
 use native.Mathlib.Omega.{arith}
-use borrow.Author.Tests.{le-leb, leb-true, eqb-true, eqb-false, ltb-false}
+use borrow.Author.Tests.{le-leb, leb-true, eqb-false, ltb-false}
 use lib.Dec.{leb, ltb, eqb}
 use Rattle.bits.specs.Fields.{fit, bad_size}
 use Rattle.bits.proofs.LawsFill.{same_tests}
@@ -64,13 +64,6 @@ module _ (count size len : ℕ) where
       (λ l. omega (arith, eights, eights_fit h))
 
 -- ---- the sizes that go in groups
-
-pub in_groups : (size : ℕ) → eqb size 6 || eqb size 10 ≡ true → (size ≡ 6) ⊎ (size ≡ 10)
-in_groups size h = go (eqb size 6) refl h
-  where
-    go : (t : Bool) → eqb size 6 ≡ t → t || eqb size 10 ≡ true → (size ≡ 6) ⊎ (size ≡ 10)
-    go true e h = inl (eqb-true size 6 e)
-    go false e h = inr (eqb-true size 10 h)
 
 pub record Grouped (size : ℕ) : Type 0 where
   pub least : 6 ≤ size

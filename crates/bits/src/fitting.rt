@@ -4,6 +4,13 @@ ghost use Rattle.bits.specs.Fields.{fit, bad_size};
 
 const MOST_BITS: u8 = 16;
 
+// The sizes of the format's fields: these words are taken and put the quick way.
+pub const SIX: u8 = 6;
+
+pub const EIGHT: u8 = 8;
+
+pub const TEN: u8 = 10;
+
 pub fn is_bad_size(size: u8) -> bool
     ensures { result ≡ bad_size size }
 {

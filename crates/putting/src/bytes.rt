@@ -5,18 +5,15 @@ ghost use Rattle.bits.specs.Bits.{Below};
 ghost use Rattle.bits.specs.Fields.{field_of};
 
 use crate::each::put_plain;
-
-pub(crate) const EIGHT: u8 = 8;
+use bits::fitting::EIGHT;
 
 fn put_front(words: &[u16], field: &mut [u8])
     requires words_in_bounds { length words.now ≤ length field.old }
     requires below { Below 256 words.now }
     ensures { field.new ≡ laid field.old 0 words.now }
 {
-    let mut i: usize = 0;
-    while i < words.len() {
-        field[i] = (words[i] % 256) as u8;
-        i += 1;
+    for (i, word) in words.iter().enumerate() {
+        field[i] = (*word % 256) as u8;
     }
 }
 

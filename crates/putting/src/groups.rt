@@ -8,10 +8,7 @@ ghost use Rattle.bits.specs.Fields.{field_of};
 
 use crate::each::put_plain;
 use crate::eight::put_eight;
-
-pub(crate) const SIX: u8 = 6;
-
-pub(crate) const TEN: u8 = 10;
+use bits::fitting::{SIX, TEN};
 
 // The bits of four words from `i` on, at the high end of a number, and zeros behind them.
 fn joined(words: &[u16], i: usize, size: usize) -> u64

@@ -7,6 +7,7 @@ ghost use Rattle.ground.specs.Refusals.{number_in};
 ghost use Rattle.bits.specs.Bits.{Below};
 ghost use Rattle.bits.specs.Fields.{put_answer, field_put, field_of};
 
+use bits::fitting::{EIGHT, SIX, TEN};
 use ground::Refusal;
 
 mod bytes;
@@ -23,15 +24,11 @@ fn put_fitting(words: &[u16], size: u8, field: &mut [u8])
     requires below { Below (2 ^ size) words.now }
     ensures { field.new ≡ field_of size (length field.old) words.now }
 {
-    if (size == groups::SIX) | (size == groups::TEN) {
-        groups::put_groups(words, size as usize, field);
-        return;
+    match size {
+        SIX | TEN => groups::put_groups(words, size as usize, field),
+        EIGHT => bytes::put_bytes(words, field),
+        _ => each::put_plain(words, size as usize, field),
     }
-    if size == bytes::EIGHT {
-        bytes::put_bytes(words, field);
-        return;
-    }
-    each::put_plain(words, size as usize, field);
 }
 
 // Puts the words into all of the field, with zeros behind them. A refusal leaves the field as it was.

@@ -8,6 +8,7 @@ use native.Mathlib.Omega.{arith}
 use lib.ListN.{length, get_or, take, drop, set, length-append, length-drop, take-append-drop, drop_of_length-le}
 use lib.Seq.{take-suc, drop-cons, set_at, take_at, drop_at, length-take-le, drop-drop}
 use borrow.Author.Tests.{le-leb}
+use borrow.Rule.Slice.PartMut.{put_mid}
 use Rattle.ground.proofs.LawsChoice.{yes}
 use Rattle.room.specs.Laid.{laid, laid_inside}
 
@@ -41,6 +42,12 @@ laid_more r w xs ys h =
     ∙ append_assoc (take w r) xs (ys ++ drop (w + length xs + length ys) r)
     ∙ ap (λ (l : List ℕ). take w r ++ l) (sym (append_assoc xs ys (drop (w + length xs + length ys) r)))
     ∙ ap (λ (k : ℕ). take w r ++ ((xs ++ ys) ++ drop k r)) e
+
+-- a part stored over is laid
+pub part_laid : (r : List ℕ) (w end : ℕ) (xs : List ℕ) {ys : List ℕ} → ys ≡ xs → end ≡ w + length xs → put_mid w (end - w) r ys ≡ laid r w xs
+part_laid r w end xs {ys} e l =
+    let k : end - w ≡ length xs = omega arith in
+    ap₂ (λ (p : List ℕ) (n : ℕ). take w r ++ (p ++ drop n (drop w r))) e k ∙ ap (λ (q : List ℕ). take w r ++ (xs ++ q)) (drop-drop (length xs) w r)
 
 -- one element stored is one element laid
 pub laid_set : (r : List ℕ) (w a : ℕ) → w < length r → set r w a ≡ laid r w (a ∷ [])

@@ -1,4 +1,4 @@
--- Four words in a number: eight bytes put together, the words of a group as two pairs, and the pairs as words side by side.
+-- Four words in a number: the words of a group as two pairs, and the pairs as words side by side.
 -- Assumes nothing.
 use mathlib.Core.Path.{◌≡◌, refl, sym, ap, ap₂, ◌∙◌, subst}
 use mathlib.Core.List.{List, [], ◌∷◌, ◌++◌}
@@ -7,20 +7,12 @@ use native.Mathlib.Nat.{add_comm, mod-lt, mod-eq_of_lt, lt_of_lt_of_le}
 use native.Mathlib.Omega.{arith}
 use lib.Pow.{pow_pos, pow_mono, high, low, split, field, shr_lt, shr-shr, mod-mod-pow, ones_lt}
 use lib.Bits.{bit_and, and_block, and_mask}
-use Rattle.bits.specs.Bits.{bits, words, Below}
+use Rattle.bits.specs.Bits.{bits, words}
 use Rattle.bits.specs.Digits.{digits}
 use Rattle.bits.proofs.LawsBits.{bits_split}
 use Rattle.bits.proofs.LawsDigits.{from_digits, digits_from}
 use Rattle.bits.proofs.LawsWords.{words_top, words_cons}
 use Rattle.taking.specs.Halves.{low_bits}
-
-pub eight_digits : (a b c d e f g h : ℕ) → Below 256 (a ∷ b ∷ c ∷ d ∷ e ∷ f ∷ g ∷ h ∷ [])
-    → digits 256 8 (a + b * 256 + c * 2 ^ 16 + d * 2 ^ 24 + (e + f * 256 + g * 2 ^ 16 + h * 2 ^ 24) * 2 ^ 32)
-    ≡ a ∷ b ∷ c ∷ d ∷ e ∷ f ∷ g ∷ h ∷ []
-eight_digits a b c d e f g h bytes =
-    let eight = a ∷ b ∷ c ∷ d ∷ e ∷ f ∷ g ∷ h ∷ [] in
-    let whole : a + b * 256 + c * 2 ^ 16 + d * 2 ^ 24 + (e + f * 256 + g * 2 ^ 16 + h * 2 ^ 24) * 2 ^ 32 ≡ from_digits 8 eight = omega arith in
-    ap (digits 256 8) whole ∙ digits_from 8 eight bytes
 
 pub four_digits : (x : ℕ) → digits 65536 4 x ≡ x % 2 ^ 16 ∷ x / 2 ^ 16 % 2 ^ 16 ∷ x / 2 ^ 32 % 2 ^ 16 ∷ x / 2 ^ 48 % 2 ^ 16 ∷ []
 unfolding digits

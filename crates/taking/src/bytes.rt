@@ -2,16 +2,12 @@
 ghost use Rattle.std.specs.Prelude.{◌≡◌, ◌++◌, ◌≤◌, length, drop};
 ghost use Rattle.bits.specs.Fields.{words_of};
 
-pub(crate) const EIGHT: u8 = 8;
-
 pub(crate) fn take_bytes(field: &[u8], count: usize, room: &mut [u16])
     requires count_in_bounds { count ≤ length field.now }
     requires count_in_bounds_2 { count ≤ length room.old }
     ensures { room.new ≡ words_of 8 count field.now ++ drop count room.old }
 {
-    let mut i: usize = 0;
-    while i < count {
-        room[i] = field[i] as u16;
-        i += 1;
+    for i in 0..count {
+        room[i] = u16::from(field[i]);
     }
 }

@@ -1,6 +1,6 @@
 // The quick way for words of six and of ten bits: four words are a group of half their size in bytes, and four groups go at once. It is
 // proved over the size, and leaves in the room what `each` would; whoever wants to know what that is can pass this file by.
-ghost use Rattle.std.specs.Prelude.{◌≡◌, [], ◌∷◌, ◌++◌, ◌⊎◌, ◌+◌, ◌*◌, ◌/◌, ◌%◌, ◌≤◌, length, take, drop};
+ghost use Rattle.std.specs.Prelude.{◌≡◌, ◌++◌, ◌⊎◌, ◌+◌, ◌*◌, ◌/◌, ◌%◌, ◌≤◌, length, take, drop};
 ghost use Rattle.room.specs.Laid.{laid};
 ghost use Rattle.bits.specs.Bits.{bits, words, sent};
 ghost use Rattle.bits.specs.Digits.{digits};
@@ -8,35 +8,15 @@ ghost use Rattle.bits.specs.Fields.{words_of};
 ghost use Rattle.taking.specs.Halves.{low_bits};
 
 use crate::each::take_each;
-
-pub(crate) const SIX: u8 = 6;
-
-pub(crate) const TEN: u8 = 10;
-
-// Eight bytes as a number, the first one lowest: for a compiler this is one load.
-fn low_first(a: u8, b: u8, c: u8, d: u8, e: u8, f: u8, g: u8, h: u8) -> u64
-    ensures { digits 256 8 result ≡ a ∷ b ∷ c ∷ d ∷ e ∷ f ∷ g ∷ h ∷ [] }
-{
-    let low = a as u64 + b as u64 * 0x100 + c as u64 * 0x1_0000 + d as u64 * 0x100_0000;
-    let high = e as u64 + f as u64 * 0x100 + g as u64 * 0x1_0000 + h as u64 * 0x100_0000;
-    low + high * 0x1_0000_0000
-}
+use bits::fitting::{SIX, TEN};
 
 // The eight bytes of the field from `at` on as a number, the first one highest: a group, and the bytes behind it that come with the load.
 fn eight_from(field: &[u8], at: usize) -> u64
     requires { at + 8 ≤ length field.now }
     ensures { bits 64 result ≡ sent (take 8 (drop at field.now)) }
 {
-    bits::turned(low_first(
-        field[at],
-        field[at + 1],
-        field[at + 2],
-        field[at + 3],
-        field[at + 4],
-        field[at + 5],
-        field[at + 6],
-        field[at + 7],
-    ))
+    let eight: &[u8; 8] = field[at..].first_chunk().unwrap();
+    u64::from_be_bytes(*eight)
 }
 
 // The low `size` bits of both halves of `x`.
@@ -73,10 +53,13 @@ fn put_four(x: u64, room: &mut [u16], i: usize)
     requires { i + 4 ≤ length room.old }
     ensures { room.new ≡ laid room.old i (digits 65536 4 x) }
 {
-    room[i] = (x % 0x1_0000) as u16;
-    room[i + 1] = ((x >> 16) % 0x1_0000) as u16;
-    room[i + 2] = ((x >> 32) % 0x1_0000) as u16;
-    room[i + 3] = ((x >> 48) % 0x1_0000) as u16;
+    let words = [
+        (x % 0x1_0000) as u16,
+        ((x >> 16) % 0x1_0000) as u16,
+        ((x >> 32) % 0x1_0000) as u16,
+        ((x >> 48) % 0x1_0000) as u16,
+    ];
+    room[i..i + 4].copy_from_slice(&words);
 }
 
 // Sixteen words of the field from byte `at` on, into the room from `i` on. All four groups are read before one is stored: the compiler does

@@ -5,7 +5,7 @@ ghost use Rattle.std.specs.Prelude.{◌≡◌, ◌++◌, ◌*◌, ◌≤◌, len
 ghost use Rattle.ground.specs.Refusals.{number_in};
 ghost use Rattle.bits.specs.Fields.{take_answer, room_taken, words_of};
 
-use bits::fitting;
+use bits::fitting::{self, EIGHT, SIX, TEN};
 use ground::Refusal;
 
 mod bytes;
@@ -19,15 +19,11 @@ fn take_fitting(field: &[u8], size: u8, count: usize, room: &mut [u16])
     requires count_in_bounds { count ≤ length room.old }
     ensures { room.new ≡ words_of size count field.now ++ drop count room.old }
 {
-    if (size == groups::SIX) | (size == groups::TEN) {
-        groups::take_groups(field, size as usize, count, room);
-        return;
+    match size {
+        SIX | TEN => groups::take_groups(field, size as usize, count, room),
+        EIGHT => bytes::take_bytes(field, count, room),
+        _ => each::take_each(field, size as usize, count, room),
     }
-    if size == bytes::EIGHT {
-        bytes::take_bytes(field, count, room);
-        return;
-    }
-    each::take_each(field, size as usize, count, room);
 }
 
 // Takes the first `count` words out of the field, to the front of the room. A refusal leaves the room as it was.

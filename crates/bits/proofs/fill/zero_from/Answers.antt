@@ -1,13 +1,12 @@
 -- `bits::fill::zero_from` meets its contract: the bits of the bytes joined are zero where those of each byte are.
 -- Assumes nothing.
 use mathlib.Core.Path.{◌∙◌, ap}
-use native.Mathlib.Omega.{arith}
-use Prim.Native.Nat.{ℕ, ◌-◌}
+use Prim.Native.Nat.{ℕ}
 use lib.Dec.{eqb}
-use lib.ListN.{length, drop, length-drop}
-use lib.Seq.{take_all}
+use lib.ListN.{drop}
 use Rattle.std.specs.Prelude.{fold, bit_or}
 use Rattle.bits.proofs.LawsBelow.{below_all, below_drop}
+use Rattle.bits.proofs.LawsElements.{to_end}
 use Rattle.bits.proofs.LawsFill.{zero_joined}
 use Rattle.bits.proofs.fill.zero_from.Goals as goal
 
@@ -15,5 +14,5 @@ pub returns : goal.returns
 returns c =
     let field = c.args.field.now in
     let behind = drop c.args.start field in
-    ap (λ (n : ℕ). eqb n 0) (c.joined.ensures ∙ ap (fold bit_or 0) (take_all (length field - c.args.start) behind (omega (arith, length-drop c.args.start field))))
+    ap (λ (n : ℕ). eqb n 0) (c.joined.ensures ∙ ap (fold bit_or 0) (to_end c.args.start field))
     ∙ zero_joined 0 behind (below_drop 256 c.args.start field (below_all 256 field (λ k. (c.type_inv.field k).fits)))

@@ -1,14 +1,9 @@
 -- `putting::bytes::put_front` meets its contract: the words passed stand at the front of the field.
 -- Assumes nothing.
 use mathlib.Core.Path.{◌≡◌}
-use Prim.Native.Nat.{◌-◌, ◌≤◌}
-use lib.ListN.{length, take}
+use lib.ListN.{take}
 use Rattle.room.specs.Laid.{laid}
 use Rattle.putting.proofs.bytes.put_front.Given as goal
 
 abbrev pub invariant-loop-i : goal.invariant-loop-i
-invariant-loop-i l =
-    (l.i ≤ length l.words) × ((l.field ≡ laid l.initial.field 0 (take l.i l.words)) × (length l.field ≡ length l.initial.field))
-
-abbrev pub decreases-loop-i : goal.decreases-loop-i
-decreases-loop-i l = length l.words - l.i
+invariant-loop-i l = l.field ≡ laid l.initial.field 0 (take l.i l.words)

@@ -1,10 +1,10 @@
 -- `taking::bytes::take_bytes` meets its contract: the bytes passed stand at the front of the room.
 -- Assumes nothing.
-use mathlib.Core.Path.{◌≡◌, refl, sym, ap, ◌∙◌, subst}
+use mathlib.Core.Path.{◌≡◌, sym, ap, ap₂, ◌∙◌, subst}
 use mathlib.Core.List.{List, ◌++◌}
 use Prim.Native.Nat.{ℕ, ◌+◌, ◌≤◌}
 use native.Mathlib.Omega.{arith}
-use lib.ListN.{length, get_or, take, drop, set, length-set}
+use lib.ListN.{length, take, drop, set}
 use lib.Seq.{length-take-le}
 use Rattle.room.specs.Laid.{laid}
 use Rattle.room.proofs.LawsLaid.{laid_nil, laid_front, front_turn}
@@ -14,29 +14,15 @@ use Rattle.bits.proofs.LawsFields.{bytes_taken}
 use Rattle.taking.proofs.bytes.take_bytes.Goals as goal
 
 pub loop-i-init : goal.loop-i-init
-loop-i-init c = (omega arith, (sym (laid_nil _ 0), (refl, tt)))
-
-pub overflow_cast-room : goal.overflow_cast-room
-overflow_cast-room c = omega (arith, c.type_inv.field c.loop-i.i)
+loop-i-init c = (sym (laid_nil _ 0), tt)
 
 pub loop-i-preserved : goal.loop-i-preserved
 loop-i-preserved c =
     let l = c.loop-i in
-    let a = c.args in
-    let v = get_or a.field.now l.i 0 in (
-      omega arith,
-      (
-        ap (λ (r : List ℕ). set r l.i v) l.invariant.1.0 ∙ front_turn a.field.now a.room.now l.i (omega arith) (omega arith),
-        (
-          length-set l.room l.i v ∙ l.invariant.1.1.0,
-          below_take 256 (l.i + 1) a.field.now
-              (below_all 256 a.field.now (λ k. (c.type_inv.field k).fits)),
-        ),
-      ),
+    let a = c.args in (
+      ap₂ (λ (r : List ℕ) (w : ℕ). set r l.i w) l.invariant.0 c.from.ensures ∙ front_turn a.field.now a.room.now l.i (omega arith) (omega arith),
+      below_take 256 (l.i + 1) a.field.now (below_all 256 a.field.now (λ k. (c.type_inv.field k).fits)),
     )
-
-pub shape_of-room : goal.shape_of-room
-shape_of-room c = c.loop-i.invariant.1.1.0
 
 pub returns : goal.returns
 returns c =
@@ -45,8 +31,8 @@ returns c =
     let count = c.args.count in
     let e : l.i ≡ count = omega arith in
     let fits : count ≤ length field = c.requires.count_in_bounds in
-    l.invariant.1.0
+    l.invariant.0
     ∙ ap (λ (n : ℕ). laid c.args.room.now 0 (take n field)) e
     ∙ laid_front c.args.room.now (take count field) count (length-take-le count field fits)
     ∙ ap (λ (ws : List ℕ). ws ++ drop count c.args.room.now)
-    (sym (bytes_taken count field (subst (λ (n : ℕ). Below 256 (take n field)) e l.invariant.1.1.1) fits))
+    (sym (bytes_taken count field (subst (λ (n : ℕ). Below 256 (take n field)) e l.invariant.1) fits))

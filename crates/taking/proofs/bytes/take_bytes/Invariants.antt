@@ -1,16 +1,10 @@
 -- `taking::bytes::take_bytes` meets its contract: the bytes passed stand at the front of the room.
 -- Assumes nothing.
 use mathlib.Core.Path.{◌≡◌}
-use Prim.Native.Nat.{◌-◌, ◌≤◌}
-use lib.ListN.{length, take}
+use lib.ListN.{take}
 use Rattle.room.specs.Laid.{laid}
 use Rattle.bits.specs.Bits.{Below}
 use Rattle.taking.proofs.bytes.take_bytes.Given as goal
 
 abbrev pub invariant-loop-i : goal.invariant-loop-i
-invariant-loop-i l =
-    (l.i ≤ l.count) × ((l.room ≡ laid l.initial.room 0 (take l.i l.field)) ×
-    ((length l.room ≡ length l.initial.room) × Below 256 (take l.i l.field)))
-
-abbrev pub decreases-loop-i : goal.decreases-loop-i
-decreases-loop-i l = l.count - l.i
+invariant-loop-i l = (l.room ≡ laid l.initial.room 0 (take l.i l.field)) × Below 256 (take l.i l.field)
