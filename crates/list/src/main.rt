@@ -2,11 +2,8 @@
 // its words; what a field is, and the text of its line, are the library's.
 #![tactic(auto)]
 
-mod system;
-
-ghost use Rattle.std.specs.Prelude.{◌≡◌, ◌⊎◌, ◌<◌, ◌≤◌, length};
+ghost use Rattle.std.specs.Prelude.{◌<◌, ◌≤◌, length};
 ghost use Rattle.row.specs.Promises.{most_words};
-ghost use Rattle.recording.specs.Lines.{most_fields};
 
 use listing::LINE_BYTES;
 use recording::{Found, Line};
@@ -20,138 +17,121 @@ const FIELD_BYTES: usize = 65538;
 // Room for a name as long as any.
 const NAME_BYTES: usize = 4096;
 
-// The first `end` bytes of the room that a line was put into, in one write; whether it was done, and where not, standard error says why. A
-// pipe takes so few bytes whole or not at all, so that the lines of several programs never mix in one.
-fn write_text(rt: &HostRuntime, room: &[u8], end: usize) -> bool
-    requires end_nonzero { 0 < end }
-    requires end_in_bounds { end ≤ length room.now }
-{
-    match rt.write_all(&room[..end]) {
-        Ok(()) => true,
-        Err(error) => {
-            system::fail(rt, b"standard output", error);
-            false
-        }
+// What ends a listing before its last line.
+#[derive(Drop)]
+enum Failure {
+    Reading(io::Error),
+    Writing(io::Error),
+}
+
+// What writes a line answers a bare error.
+impl From<io::Error> for Failure {
+    fn from(error: io::Error) -> Failure {
+        Failure::Writing(error)
     }
 }
 
-fn write_first(rt: &HostRuntime) -> bool {
+// The first `end` bytes of the room that a line was put into, in one write. A pipe takes so few bytes whole or not at all, so that the
+// lines of several programs never mix in one.
+fn write_text(rt: &HostRuntime, room: &[u8], end: usize) -> io::Result<()>
+    requires end_nonzero { 0 < end }
+    requires end_in_bounds { end ≤ length room.now }
+{
+    rt.write_all(&room[..end])
+}
+
+fn write_first(rt: &HostRuntime) -> io::Result<()> {
     let mut text = [0u8; LINE_BYTES];
     let end = listing::put_first(&mut text);
     write_text(rt, &text, end)
 }
 
-fn write_line(rt: &HostRuntime, line: Line) -> bool {
+fn write_line(rt: &HostRuntime, line: Line) -> io::Result<()> {
     let mut text = [0u8; LINE_BYTES];
     let end = listing::put_line(line, &mut text);
     write_text(rt, &text, end)
 }
 
-fn write_last(rt: &HostRuntime, cut: bool, fields: u64) {
+fn write_last(rt: &HostRuntime, cut: bool, fields: u64) -> io::Result<()> {
     let mut text = [0u8; LINE_BYTES];
     let end = listing::put_last(cut, fields, &mut text);
-    write_text(rt, &text, end);
+    write_text(rt, &text, end)
 }
 
 // Reads a field's front, and then as many bytes as it says; the bytes that came.
-fn read_field<R: Read>(input: &mut R, field: &mut [u8]) -> usize
-    requires { 65538 ≤ length field.old }
+fn read_field<R: Read>(input: &mut R, field: &mut [u8; FIELD_BYTES]) -> usize
     ensures { result ≤ length field.new }
 {
     let front = recording::FRONT;
-    let got = system::read_full(input, &mut field[..front]);
+    let got = program::read_full(input, &mut field[..front]);
     if got < front {
         return got;
     }
     let length = recording::body_length([field[0], field[1], field[2]]) as usize;
     let end = front + length;
-    let more = system::read_full(input, &mut field[front..end]);
+    let more = program::read_full(input, &mut field[front..end]);
     front + more
 }
 
 // Why reading failed, if it did, where it stopped short: at its end a file gives no byte more.
-fn failure<R: Read>(input: &mut R) -> Option<io::Error> {
+fn why_stopped<R: Read>(input: &mut R) -> Option<io::Error> {
     let mut one = [0u8; 1];
     input.read(&mut one).err()
 }
 
-// One field: lists it and answers its number; or says how the recording ends and answers 0, as where a line is not written.
-fn list_field<R: Read>(
-    rt: &HostRuntime,
-    input: &mut R,
-    name: &[u8],
-    seen: u64,
-    field: &mut [u8],
-    room: &mut [u16],
-) -> u64
-    requires seen_lt_most_fields { seen < most_fields }
-    requires in_bounds { 65538 ≤ length field.old }
-    requires most_words_in_bounds { most_words ≤ length room.old }
-    ensures { (result ≡ 0) ⊎ (seen < result) }
-{
-    let got = read_field(input, field);
-    match recording::next_field(&field[..got], 0) {
-        Found::Whole(tag, start, length) => {
-            let end = start + length;
-            let line = recording::line_of(seen, tag, &field[start..end], room);
-            let seq = line.seq;
-            if write_line(rt, line) {
-                return seq;
-            }
-            0
-        }
-        Found::Cut => {
-            finish(rt, input, name, true, seen);
-            0
-        }
-        Found::End => {
-            finish(rt, input, name, false, seen);
-            0
-        }
+// The last line, with the number of complete fields, where reading did not fail.
+fn finish<R: Read>(rt: &HostRuntime, input: &mut R, cut: bool, fields: u64) -> Result<(), Failure> {
+    if let Some(error) = why_stopped(input) {
+        return Err(Failure::Reading(error));
     }
-}
-
-// The last line, with the number of complete fields; or, where reading failed, a message instead.
-fn finish<R: Read>(rt: &HostRuntime, input: &mut R, name: &[u8], cut: bool, fields: u64) {
-    match failure(input) {
-        Some(error) => system::fail(rt, name, error),
-        None => write_last(rt, cut, fields),
-    }
+    write_last(rt, cut, fields)?;
+    Ok(())
 }
 
 // A proved loop has to end, and nothing says that a recording does: so it goes to a number of fields that none has.
 fn list_fields<R: Read>(
     rt: &HostRuntime,
     input: &mut R,
-    name: &[u8],
-    field: &mut [u8],
+    field: &mut [u8; FIELD_BYTES],
     room: &mut [u16],
-)
-    requires in_bounds { 65538 ≤ length field.old }
+) -> Result<(), Failure>
     requires most_words_in_bounds { most_words ≤ length room.old }
 {
-    let mut seen: u64 = 0;
-    while seen < u64::MAX {
-        let seq = list_field(rt, input, name, seen, field, room);
-        if seq == 0 {
-            return;
+    for seen in 0..u64::MAX {
+        let got = read_field(input, field);
+        match recording::next_field(&field[..got], 0) {
+            Found::Whole(tag, start, length) => {
+                let end = start + length;
+                let line = recording::line_of(seen, tag, &field[start..end], room);
+                write_line(rt, line)?;
+            }
+            Found::Cut => return finish(rt, input, true, seen),
+            Found::End => return finish(rt, input, false, seen),
         }
-        seen = seq;
     }
+    Ok(())
 }
 
-fn list<R: Read>(rt: &HostRuntime, input: &mut R, name: &[u8]) {
+fn list_all<R: Read>(rt: &HostRuntime, input: &mut R) -> Result<(), Failure> {
     let mut field = [0u8; FIELD_BYTES];
     let mut room = [0u16; MOST_WORDS];
-    if write_first(rt) {
-        list_fields(rt, input, name, &mut field, &mut room);
+    write_first(rt)?;
+    list_fields(rt, input, &mut field, &mut room)
+}
+
+// Lists what the name says; where that fails, standard error says why.
+fn list<R: Read>(rt: &HostRuntime, input: &mut R, name: &[u8]) {
+    match list_all(rt, input) {
+        Ok(()) => (),
+        Err(Failure::Reading(error)) => program::fail(rt, name, error),
+        Err(Failure::Writing(error)) => program::fail(rt, b"standard output", error),
     }
 }
 
 fn list_file(rt: &HostRuntime, name: &[u8]) {
-    match system::open_read(rt, name) {
+    match program::open_read(rt, name) {
         Ok(mut file) => list(rt, &mut file, name),
-        Err(error) => system::fail(rt, name, error),
+        Err(error) => program::fail(rt, name, error),
     }
 }
 
@@ -160,7 +140,7 @@ fn list_input(rt: &HostRuntime) {
 }
 
 fn say_usage(rt: &HostRuntime) {
-    system::say(
+    program::say(
         rt,
         b"usage: list [RECORDING]: none, or -, is standard input\n",
     );
@@ -168,34 +148,25 @@ fn say_usage(rt: &HostRuntime) {
 
 // A dash alone is standard input, and what begins with one is an option: there are none.
 fn list_named(rt: &HostRuntime, name: &[u8]) {
-    if name.len() == 0 {
-        list_file(rt, name);
-        return;
+    match name {
+        b"-" => list_input(rt),
+        [b'-', ..] => say_usage(rt),
+        _ => list_file(rt, name),
     }
-    if name[0] != b'-' {
-        list_file(rt, name);
-        return;
+}
+
+fn list_word(rt: &HostRuntime) {
+    let mut name = [0u8; NAME_BYTES];
+    match program::arg(rt, 1, &mut name) {
+        Ok(length) => list_named(rt, &name[..length]),
+        Err(error) => program::fail(rt, b"the name of the recording", error),
     }
-    if name.len() == 1 {
-        list_input(rt);
-        return;
-    }
-    say_usage(rt);
 }
 
 fn main(rt: HostRuntime) {
-    let words = system::arg_count(&rt);
-    if words < 2 {
-        list_input(&rt);
-        return;
-    }
-    if 2 < words {
-        say_usage(&rt);
-        return;
-    }
-    let mut name = [0u8; NAME_BYTES];
-    match system::arg(&rt, 1, &mut name) {
-        Ok(length) => list_named(&rt, &name[..length]),
-        Err(error) => system::fail(&rt, b"the name of the recording", error),
+    match program::arg_count(&rt) {
+        0 | 1 => list_input(&rt),
+        2 => list_word(&rt),
+        _ => say_usage(&rt),
     }
 }

@@ -2,8 +2,6 @@
 // output a report of every block and of every span skipped. What is found, and the text of the report, are the library's.
 #![tactic(auto)]
 
-mod system;
-
 ghost use Rattle.std.specs.Prelude.{◌≡◌, ◌⊎◌, ◌++◌, ◌*◌, ◌<◌, ◌≤◌, IfSome, length, take};
 ghost use Rattle.row.specs.Promises.{most_words};
 ghost use Rattle.salvaging.specs.Answers.{bytes_for, numbers_for};
@@ -13,6 +11,7 @@ use report::LINE_BYTES;
 use row::MOST_WORDS;
 use salvaging::{ENTRY_NUMBERS, Salvaged};
 use std::fs::File;
+use std::io;
 use std::io::{Read, Write};
 
 // The most bytes of an input; whether it has more is known by one more.
@@ -31,67 +30,65 @@ const NAME_BYTES: usize = 4096;
 // Such a name, and `.part` behind it.
 const PART_BYTES: usize = 4101;
 
-// A line to standard output, in one write; whether it was done, and where not, standard error says why.
-fn write_line(rt: &HostRuntime, line: &[u8]) -> bool {
-    match rt.write_all(line) {
-        Ok(()) => true,
-        Err(error) => {
-            system::fail(rt, b"standard output", error);
-            false
-        }
+// The names that the program was called with, and that of the new file: OUT's, and `.part` behind it.
+#[derive(Clone, Copy)]
+struct Names<'a> {
+    input: &'a [u8],
+    part: &'a [u8],
+    out: &'a [u8],
+}
+
+// What ends a salvage: a call that failed, by what it was for, or an input that grew.
+#[derive(Drop)]
+enum Failure {
+    Input(io::Error),
+    Grown,
+    Part(io::Error),
+    Out(io::Error),
+    Output(io::Error),
+}
+
+// What writes a line answers a bare error.
+impl From<io::Error> for Failure {
+    fn from(error: io::Error) -> Failure {
+        Failure::Output(error)
     }
 }
 
-// The first `end` bytes of the room that a line was put into.
-fn write_text(rt: &HostRuntime, room: &[u8], end: usize) -> bool
+// The first `end` bytes of the room that a line was put into, in one write.
+fn write_text(rt: &HostRuntime, room: &[u8], end: usize) -> io::Result<()>
     requires end_nonzero { 0 < end }
     requires end_in_bounds { end ≤ length room.now }
 {
-    write_line(rt, &room[..end])
+    rt.write_all(&room[..end])
 }
 
-fn write_first(rt: &HostRuntime) -> bool {
+fn write_first(rt: &HostRuntime) -> io::Result<()> {
     let mut text = [0u8; LINE_BYTES];
     let end = report::put_first(&mut text);
     write_text(rt, &text, end)
 }
 
-fn write_entry(rt: &HostRuntime, start: usize, bytes: usize, found: usize) -> bool {
+fn write_entry(rt: &HostRuntime, start: usize, bytes: usize, found: usize) -> io::Result<()> {
     let mut text = [0u8; LINE_BYTES];
     let end = report::put_entry(start, bytes, found, &mut text);
     write_text(rt, &text, end)
 }
 
-fn write_last(rt: &HostRuntime, blocks: usize) {
+fn write_last(rt: &HostRuntime, blocks: usize) -> io::Result<()> {
     let mut text = [0u8; LINE_BYTES];
     let end = report::put_last(blocks, &mut text);
-    write_text(rt, &text, end);
+    write_text(rt, &text, end)
 }
 
-// A line for each entry; whether all were written.
-fn write_entries(rt: &HostRuntime, report: &[usize], entries: usize) -> bool
-    requires { entries * 3 ≤ length report.now }
-{
-    let mut i: usize = 0;
-    while i < entries {
-        let at = i * ENTRY_NUMBERS;
-        if !write_entry(rt, report[at], report[at + 1], report[at + 2]) {
-            return false;
-        }
-        i += 1;
+// The report of entries, whole ones: three numbers each.
+fn write_report(rt: &HostRuntime, report: &[usize], blocks: usize) -> io::Result<()> {
+    write_first(rt)?;
+    let (entries, _) = report.as_chunks::<ENTRY_NUMBERS>();
+    for &[start, bytes, found] in entries {
+        write_entry(rt, start, bytes, found)?;
     }
-    true
-}
-
-fn write_report(rt: &HostRuntime, report: &[usize], entries: usize, blocks: usize)
-    requires { entries * 3 ≤ length report.now }
-{
-    if !write_first(rt) {
-        return;
-    }
-    if write_entries(rt, report, entries) {
-        write_last(rt, blocks);
-    }
+    write_last(rt, blocks)
 }
 
 // The name of the new file: OUT's, and `.part` behind it. Where it ends.
@@ -105,65 +102,50 @@ fn part_name(out: &[u8], name: &mut [u8]) -> usize
     text::put_part(b".part", name, end)
 }
 
-// All of the recording, as far as the disk; whether that was done. The file is closed behind it, which std says nothing of.
-fn fill(rt: &HostRuntime, mut file: File, recording: &[u8], name: &[u8]) -> bool {
-    if let Err(error) = file.write_all(recording) {
-        system::fail(rt, name, error);
-        return false;
-    }
-    if let Err(error) = file.sync_all() {
-        system::fail(rt, name, error);
-        return false;
-    }
-    true
+// All of the recording, as far as the disk. The file is closed behind it, which std says nothing of.
+fn fill(mut file: File, recording: &[u8]) -> io::Result<()> {
+    file.write_all(recording)?;
+    file.sync_all()
 }
 
-// The new file takes OUT's name; where it cannot, it is removed.
-fn take_name(rt: &HostRuntime, name: &[u8], out: &[u8]) -> bool {
-    if let Err(error) = system::rename(rt, name, out) {
-        system::fail(rt, out, error);
-        system::unlink(rt, name);
-        return false;
-    }
-    true
+// The recording in the new file, which then takes OUT's name.
+fn put_in_place(
+    rt: &HostRuntime,
+    file: File,
+    recording: &[u8],
+    names: Names,
+) -> Result<(), Failure> {
+    fill(file, recording).map_err(|error| Failure::Part(error))?;
+    program::rename(rt, names.part, names.out).map_err(|error| Failure::Out(error))
 }
 
 // The recording in a new file beside OUT, which then takes its name. Where anything fails, OUT is as it was and the new file is gone.
-fn save_as(rt: &HostRuntime, recording: &[u8], name: &[u8], out: &[u8]) -> bool {
-    match system::create(rt, name) {
-        Ok(file) => {
-            if fill(rt, file, recording, name) {
-                return take_name(rt, name, out);
-            }
-            system::unlink(rt, name);
-            false
-        }
-        Err(error) => {
-            system::fail(rt, name, error);
-            false
-        }
+fn save(rt: &HostRuntime, recording: &[u8], names: Names) -> Result<(), Failure> {
+    let file = program::create(rt, names.part).map_err(|error| Failure::Part(error))?;
+    let saved = put_in_place(rt, file, recording, names);
+    if saved.is_err() {
+        program::unlink(rt, names.part);
     }
-}
-
-fn save(rt: &HostRuntime, recording: &[u8], out: &[u8]) -> bool
-    requires { length out.now ≤ 4096 }
-{
-    let mut name = [0u8; PART_BYTES];
-    let end = part_name(out, &mut name);
-    save_as(rt, recording, &name[..end], out)
+    saved
 }
 
 // The recording, and then the report: nothing is printed of what was not written.
-fn deliver(rt: &HostRuntime, salvaged: Salvaged, recording: &[u8], report: &[usize], out: &[u8])
+fn deliver(
+    rt: &HostRuntime,
+    salvaged: Salvaged,
+    recording: &[u8],
+    report: &[usize],
+    names: Names,
+) -> Result<(), Failure>
     requires number_value { salvaged.number ≡ 0 }
     requires bytes_in_bounds { salvaged.bytes ≤ length recording.now }
     requires entries_in_bounds { salvaged.entries * 3 ≤ length report.now }
-    requires out_len_bound { length out.now ≤ 4096 }
 {
     let bytes = salvaged.bytes;
-    if save(rt, &recording[..bytes], out) {
-        write_report(rt, report, salvaged.entries, salvaged.blocks);
-    }
+    let numbers = salvaged.entries * ENTRY_NUMBERS;
+    save(rt, &recording[..bytes], names)?;
+    write_report(rt, &report[..numbers], salvaged.blocks)?;
+    Ok(())
 }
 
 // The library's salvage in rooms that suffice: there is a block or there is none, and no third outcome.
@@ -184,59 +166,67 @@ fn salvage_in(
     salvaging::salvage(input, recording, report, scratch)
 }
 
-fn salvage_bytes(rt: &HostRuntime, input: &[u8], out: &[u8])
-    requires input_len_bound { length input.now ≤ 65000 }
-    requires out_len_bound { length out.now ≤ 4096 }
+fn salvage_bytes(rt: &HostRuntime, input: &[u8], names: Names) -> Result<(), Failure>
+    requires { length input.now ≤ 65000 }
 {
     let mut recording = [0u8; RECORDING_BYTES];
     let mut report = [0usize; REPORT_NUMBERS];
     let mut scratch = [0u16; MOST_WORDS];
     let salvaged = salvage_in(input, &mut recording, &mut report, &mut scratch);
     if salvaged.number == ground::NO_BLOCK {
-        write_line(rt, b"no block\n");
-        return;
+        rt.write_all(b"no block\n")?;
+        return Ok(());
     }
-    deliver(rt, salvaged, &recording, &report, out);
+    deliver(rt, salvaged, &recording, &report, names)
 }
 
-// Whether reading stopped because there is no more. A failure looks the same from outside: one read more tells, and standard error
-// says what it is.
-fn is_at_end<R: Read>(rt: &HostRuntime, input: &mut R, name: &[u8]) -> bool {
+// Reading stopped because there is no more. A failure looks the same from outside: one read more tells.
+fn see_end<R: Read>(input: &mut R) -> Result<(), Failure> {
     let mut one = [0u8; 1];
     match input.read(&mut one) {
-        Ok(0) => true,
-        Ok(_) => {
-            system::say(rt, b"the input grew while it was read\n");
-            false
-        }
-        Err(error) => {
-            system::fail(rt, name, error);
-            false
-        }
+        Ok(0) => Ok(()),
+        Ok(_) => Err(Failure::Grown),
+        Err(error) => Err(Failure::Input(error)),
     }
 }
 
-fn salvage_from<R: Read>(rt: &HostRuntime, file: &mut R, name: &[u8], out: &[u8])
-    requires { length out.now ≤ 4096 }
-{
+fn salvage_from<R: Read>(rt: &HostRuntime, file: &mut R, names: Names) -> Result<(), Failure> {
     let mut input = [0u8; READ_BYTES];
-    let got = system::read_full(file, &mut input);
+    let got = program::read_full(file, &mut input);
     if MOST_BYTES < got {
-        write_line(rt, b"too long\n");
-        return;
+        rt.write_all(b"too long\n")?;
+        return Ok(());
     }
-    if !is_at_end(rt, file, name) {
-        return;
-    }
-    salvage_bytes(rt, &input[..got], out);
+    see_end(file)?;
+    salvage_bytes(rt, &input[..got], names)
 }
 
-fn salvage_file(rt: &HostRuntime, name: &[u8], out: &[u8])
+fn salvage_file(rt: &HostRuntime, names: Names) -> Result<(), Failure> {
+    let opened = program::open_read(rt, names.input);
+    let mut file = opened.map_err(|error| Failure::Input(error))?;
+    salvage_from(rt, &mut file, names)
+}
+
+fn say_failure(rt: &HostRuntime, names: Names, failure: Failure) {
+    match failure {
+        Failure::Input(error) => program::fail(rt, names.input, error),
+        Failure::Grown => program::say(rt, b"the input grew while it was read\n"),
+        Failure::Part(error) => program::fail(rt, names.part, error),
+        Failure::Out(error) => program::fail(rt, names.out, error),
+        Failure::Output(error) => program::fail(rt, b"standard output", error),
+    }
+}
+
+// Salvages; where that fails, standard error says why.
+fn salvage(rt: &HostRuntime, input: &[u8], out: &[u8])
     requires { length out.now ≤ 4096 }
 {
-    match system::open_read(rt, name) {
-        Ok(mut file) => salvage_from(rt, &mut file, name, out),
-        Err(error) => system::fail(rt, name, error),
+    let mut room = [0u8; PART_BYTES];
+    let end = part_name(out, &mut room);
+    let part = &room[..end];
+    let names = Names { input, part, out };
+    if let Err(failure) = salvage_file(rt, names) {
+        say_failure(rt, names, failure);
     }
 }
 
@@ -244,18 +234,18 @@ fn salvage_file(rt: &HostRuntime, name: &[u8], out: &[u8])
 fn name_in(rt: &HostRuntime, i: usize, what: &[u8], room: &mut [u8; NAME_BYTES]) -> Option<usize>
     ensures { IfSome result (λ end. end ≤ 4096) }
 {
-    match system::arg(rt, i, room) {
+    match program::arg(rt, i, room) {
         Ok(end) => Some(end),
         Err(error) => {
-            system::fail(rt, what, error);
+            program::fail(rt, what, error);
             None
         }
     }
 }
 
 fn main(rt: HostRuntime) {
-    if system::arg_count(&rt) != 3 {
-        system::say(&rt, b"usage: salvage IN OUT\n");
+    if program::arg_count(&rt) != 3 {
+        program::say(&rt, b"usage: salvage IN OUT\n");
         return;
     }
     let mut name = [0u8; NAME_BYTES];
@@ -266,5 +256,5 @@ fn main(rt: HostRuntime) {
     let Some(out_length) = name_in(&rt, 2, b"the name of the recording", &mut out) else {
         return;
     };
-    salvage_file(&rt, &name[..length], &out[..out_length]);
+    salvage(&rt, &name[..length], &out[..out_length]);
 }

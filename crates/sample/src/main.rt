@@ -4,11 +4,10 @@
 // documentation blocks, one of which is refused as such.
 #![tactic(auto)]
 
-mod system;
-
 ghost use Rattle.std.specs.Prelude.{◌+◌, ◌<◌, ◌≤◌, length};
 
 use header::EXTRA_WORDS;
+use std::io;
 use tag::Tag;
 
 // The infrared pixels of the first scan, and of all others.
@@ -21,7 +20,9 @@ const BLOCK_BYTES: usize = 8132;
 
 const MOST_WORDS: usize = 10720;
 
-// Where a header has its data valid word, word 9, and its SPS time, words 17 to 24.
+// Where a header has its word count, words 3 and 4, its data valid word, word 9, and its SPS time, words 17 to 24.
+const COUNT: usize = 2;
+
 const VALID: usize = 8;
 
 const TIME: usize = 16;
@@ -127,45 +128,26 @@ fn header_of(block: Block) -> [u8; 28]
     let mut header = [0u8; 28];
     header[0] = block.id;
     header[1] = block.size;
-    header[2] = (count / 256) as u8;
-    header[3] = (count % 256) as u8;
+    header[COUNT..COUNT + 2].copy_from_slice(&count.to_be_bytes());
     header[7] = block.version;
     header[VALID] = block.valid;
-    let time = bytes_of(block.time);
-    room::lay(&time, &mut header, TIME);
+    header[TIME..TIME + 8].copy_from_slice(&bytes_of(block.time));
     header
 }
 
-// Writes the bytes; false where that failed, and standard error says why. So it is with all that put something: the first that fails is the
-// last.
-fn write(rt: &HostRuntime, bytes: &[u8]) -> bool {
-    match rt.write_all(bytes) {
-        Ok(()) => true,
-        Err(error) => {
-            system::fail(rt, b"standard output", error);
-            false
-        }
-    }
-}
-
 // A field of the recording: the first `end` bytes of the room, where it has them.
-fn put_field(rt: &HostRuntime, tag: u8, room: &[u8], end: usize) -> bool {
+fn put_field(rt: &HostRuntime, tag: u8, room: &[u8], end: usize) -> io::Result<()> {
     if room.len() < end {
-        return true;
+        return Ok(());
     }
-    let front = recording::front_of(tag, (end % 65536) as u16);
-    if write(rt, &front) {
-        return write(rt, &room[..end]);
-    }
-    false
+    rt.write_all(&recording::front_of(tag, (end % 65536) as u16))?;
+    rt.write_all(&room[..end])
 }
 
 // The words of a line, a pattern that every size holds.
 fn put_words(words: &mut [u16]) {
-    let mut i: usize = 0;
-    while i < words.len() {
-        words[i] = (i % 61) as u16;
-        i += 1;
+    for (i, word) in words.iter_mut().enumerate() {
+        *word = (i % 61) as u16;
     }
 }
 
@@ -189,7 +171,14 @@ fn turn_over(room: &mut [u8], at: usize, bit: u8) {
 }
 
 // A field of a block with a bit turned over at a byte, and its last `less` bytes left out.
-fn put_damaged(rt: &HostRuntime, block: Block, tag: u8, at: usize, bit: u8, less: usize) -> bool
+fn put_damaged(
+    rt: &HostRuntime,
+    block: Block,
+    tag: u8,
+    at: usize,
+    bit: u8,
+    less: usize,
+) -> io::Result<()>
     requires { block.words < 65534 }
 {
     let mut pattern = [0u16; MOST_WORDS];
@@ -198,12 +187,12 @@ fn put_damaged(rt: &HostRuntime, block: Block, tag: u8, at: usize, bit: u8, less
     let end = make(block, &pattern, &mut room);
     turn_over(&mut room, at, bit);
     if end < less {
-        return true;
+        return Ok(());
     }
     put_field(rt, tag, &room, end - less)
 }
 
-fn put_block(rt: &HostRuntime, block: Block) -> bool
+fn put_block(rt: &HostRuntime, block: Block) -> io::Result<()>
     requires { block.words < 65534 }
 {
     put_damaged(rt, block, recording::BLOCK, 0, 0, 0)
@@ -229,7 +218,7 @@ fn scanned(number: u8, pixels: u16, valid: u8, time: Tag) -> Block
     }
 }
 
-fn put_scanned(rt: &HostRuntime, number: u8, pixels: u16, valid: u8, time: Tag) -> bool
+fn put_scanned(rt: &HostRuntime, number: u8, pixels: u16, valid: u8, time: Tag) -> io::Result<()>
     requires { pixels < 5237 }
 {
     let block = scanned(number, pixels, valid, time);
@@ -237,7 +226,14 @@ fn put_scanned(rt: &HostRuntime, number: u8, pixels: u16, valid: u8, time: Tag) 
 }
 
 // A block whose count is given: 0 and 11, which have a fixed one, and a block 2 of either row.
-fn put_counted(rt: &HostRuntime, id: u8, size: u8, words: u16, version: u8, time: Tag) -> bool
+fn put_counted(
+    rt: &HostRuntime,
+    id: u8,
+    size: u8,
+    words: u16,
+    version: u8,
+    time: Tag,
+) -> io::Result<()>
     requires { words < 65534 }
 {
     let block = Block {
@@ -251,7 +247,7 @@ fn put_counted(rt: &HostRuntime, id: u8, size: u8, words: u16, version: u8, time
     put_block(rt, block)
 }
 
-fn put_block_0(rt: &HostRuntime, time: Tag) -> bool {
+fn put_block_0(rt: &HostRuntime, time: Tag) -> io::Result<()> {
     put_counted(rt, 240, 8, 8040, 2, time)
 }
 
@@ -267,88 +263,82 @@ fn valid_in_scan(day: u16, number: u8) -> u8 {
 }
 
 // Blocks 0 to 10, so many milliseconds apart, over the end of a day of 2008: completed.
-fn put_scan(rt: &HostRuntime, day: u16, apart: u16, pixels: u16) -> bool
+fn put_scan(rt: &HostRuntime, day: u16, apart: u16, pixels: u16) -> io::Result<()>
     requires fact_1 { day < 367 }
     requires fact_2 { pixels < 5237 }
 {
-    if !put_block_0(rt, at(day, SCAN)) {
-        return false;
-    }
-    let mut number: u8 = 1;
-    while number <= 10 {
+    put_block_0(rt, at(day, SCAN))?;
+    for number in 1..=10u8 {
         let time = at(day, SCAN + apart as u32 * number as u32);
-        if !put_scanned(rt, number, pixels, valid_in_scan(day, number), time) {
-            return false;
-        }
-        number += 1;
+        put_scanned(rt, number, pixels, valid_in_scan(day, number), time)?;
     }
-    true
+    Ok(())
 }
 
 // Blocks 11 of every version and size.
-fn put_blocks_11(rt: &HostRuntime, ms: u32) -> bool
+fn put_blocks_11(rt: &HostRuntime, ms: u32) -> io::Result<()>
     requires { ms + 300 < 4294967296 }
 {
-    put_counted(rt, 11, 8, 8040, 0, at(DAY, ms))
-        && put_counted(rt, 11, 6, 10720, 1, at(DAY, ms + 100))
-        && put_counted(rt, 11, 10, 6432, 2, at(DAY, ms + 200))
-        && put_counted(rt, 11, 8, 8040, 3, at(DAY, ms + 300))
+    put_counted(rt, 11, 8, 8040, 0, at(DAY, ms))?;
+    put_counted(rt, 11, 6, 10720, 1, at(DAY, ms + 100))?;
+    put_counted(rt, 11, 10, 6432, 2, at(DAY, ms + 200))?;
+    put_counted(rt, 11, 8, 8040, 3, at(DAY, ms + 300))
 }
 
 // A header copy hit, which the other two make good; the data hit; a byte missing; another tag; fewer bytes than a header has.
-fn put_hits(rt: &HostRuntime, ms: u32) -> bool {
+fn put_hits(rt: &HostRuntime, ms: u32) -> io::Result<()> {
     let block = scanned(3, PIXELS, DATA, at(DAY, ms));
-    put_damaged(rt, block, recording::BLOCK, 5, 16, 0)
-        && put_damaged(rt, block, recording::BLOCK, 200, 1, 0)
-        && put_damaged(rt, block, recording::BLOCK, 0, 0, 1)
-        && put_damaged(rt, block, 2, 0, 0, 0)
-        && put_damaged(rt, block, recording::BLOCK, 0, 0, 2700)
+    put_damaged(rt, block, recording::BLOCK, 5, 16, 0)?;
+    put_damaged(rt, block, recording::BLOCK, 200, 1, 0)?;
+    put_damaged(rt, block, recording::BLOCK, 0, 0, 1)?;
+    put_damaged(rt, block, 2, 0, 0, 0)?;
+    put_damaged(rt, block, recording::BLOCK, 0, 0, 2700)
 }
 
 // Block 1 comes 5,000 ms after block 0, and block 2 a millisecond more after that: late.
-fn put_late(rt: &HostRuntime, ms: u32) -> bool
+fn put_late(rt: &HostRuntime, ms: u32) -> io::Result<()>
     requires { ms + 10001 < 4294967296 }
 {
-    put_block_0(rt, at(DAY, ms))
-        && put_scanned(rt, 1, FEW_PIXELS, DATA, at(DAY, ms + 5000))
-        && put_scanned(rt, 2, FEW_PIXELS, DATA, at(DAY, ms + 10001))
+    put_block_0(rt, at(DAY, ms))?;
+    put_scanned(rt, 1, FEW_PIXELS, DATA, at(DAY, ms + 5000))?;
+    put_scanned(rt, 2, FEW_PIXELS, DATA, at(DAY, ms + 10001))
 }
 
 // Block 2 has a time one millisecond before that of block 1: clock back.
-fn put_clock_back(rt: &HostRuntime, ms: u32) -> bool
+fn put_clock_back(rt: &HostRuntime, ms: u32) -> io::Result<()>
     requires { ms + 100 < 4294967296 }
 {
-    put_block_0(rt, at(DAY, ms))
-        && put_scanned(rt, 1, FEW_PIXELS, DATA, at(DAY, ms + 100))
-        && put_scanned(rt, 2, FEW_PIXELS, DATA, at(DAY, ms + 99))
+    put_block_0(rt, at(DAY, ms))?;
+    put_scanned(rt, 1, FEW_PIXELS, DATA, at(DAY, ms + 100))?;
+    put_scanned(rt, 2, FEW_PIXELS, DATA, at(DAY, ms + 99))
 }
 
 // Block 2 is hit and refused, so that block 3 is not the one expected: broken. Block 1 is fill.
-fn put_broken(rt: &HostRuntime, ms: u32) -> bool
+fn put_broken(rt: &HostRuntime, ms: u32) -> io::Result<()>
     requires { ms + 300 < 4294967296 }
 {
     let second = scanned(2, FEW_PIXELS, DATA, at(DAY, ms + 200));
-    put_block_0(rt, at(DAY, ms))
-        && put_scanned(rt, 1, FEW_PIXELS, FILL, at(DAY, ms + 100))
-        && put_damaged(rt, second, recording::BLOCK, 200, 1, 0)
-        && put_scanned(rt, 3, FEW_PIXELS, DATA, at(DAY, ms + 300))
+    put_block_0(rt, at(DAY, ms))?;
+    put_scanned(rt, 1, FEW_PIXELS, FILL, at(DAY, ms + 100))?;
+    put_damaged(rt, second, recording::BLOCK, 200, 1, 0)?;
+    put_scanned(rt, 3, FEW_PIXELS, DATA, at(DAY, ms + 300))
 }
 
 // Block 2 with 84 words, which suit both its rows: three records of 12 pixels in version 2, four of 5 in version 3.
-fn put_second(rt: &HostRuntime, ms: u32) -> bool
+fn put_second(rt: &HostRuntime, ms: u32) -> io::Result<()>
     requires { ms + 100 < 4294967296 }
 {
-    put_counted(rt, 2, 10, 84, 2, at(DAY, ms)) && put_counted(rt, 2, 10, 84, 3, at(DAY, ms + 100))
+    put_counted(rt, 2, 10, 84, 2, at(DAY, ms))?;
+    put_counted(rt, 2, 10, 84, 3, at(DAY, ms + 100))
 }
 
 // Bytes as words, over those from `at` on.
 fn lay_bytes(bytes: &[u8], words: &mut [u16; SOUNDER_WORDS], at: usize)
     requires { at + length bytes.now ≤ 8040 }
 {
-    let mut i: usize = 0;
-    while i < bytes.len() {
-        words[at + i] = bytes[i] as u16;
-        i += 1;
+    let room = &mut words[at..at + bytes.len()];
+    for (word, &byte) in room.iter_mut().zip(bytes.iter()) {
+        *word = byte as u16;
     }
 }
 
@@ -356,8 +346,7 @@ fn lay_bytes(bytes: &[u8], words: &mut [u16; SOUNDER_WORDS], at: usize)
 fn lay_number(n: u16, words: &mut [u16; SOUNDER_WORDS], at: usize)
     requires { at + 2 ≤ 8040 }
 {
-    words[at] = n / 256;
-    words[at + 1] = n % 256;
+    lay_bytes(&n.to_be_bytes(), words, at);
 }
 
 // The SAD ID: GOES-P, SPS 1, Sounder documentation data, the first block of its series, block count 1.
@@ -385,11 +374,8 @@ fn tag_bytes(k: usize, ms: u32) -> [u8; 8]
 fn lay_tags(ms: u32, words: &mut [u16; SOUNDER_WORDS])
     requires { ms + 1400 < 4294967296 }
 {
-    let mut k: usize = 0;
-    while k < TAG_COUNT {
-        let bytes = tag_bytes(k, ms);
-        lay_bytes(&bytes, words, TAGS + 8 * k);
-        k += 1;
+    for k in 0..TAG_COUNT {
+        lay_bytes(&tag_bytes(k, ms), words, TAGS + 8 * k);
     }
 }
 
@@ -418,7 +404,7 @@ fn lay_documentation(ms: u32, west: u16, east: u16, words: &mut [u16; SOUNDER_WO
 }
 
 // A block 11 of version 3 that has these words.
-fn put_block_11(rt: &HostRuntime, time: Tag, words: &[u16; SOUNDER_WORDS]) -> bool {
+fn put_block_11(rt: &HostRuntime, time: Tag, words: &[u16; SOUNDER_WORDS]) -> io::Result<()> {
     let block = Block {
         id: 11,
         size: 8,
@@ -432,7 +418,7 @@ fn put_block_11(rt: &HostRuntime, time: Tag, words: &[u16; SOUNDER_WORDS]) -> bo
     put_field(rt, recording::BLOCK, &room, end)
 }
 
-fn put_sounder(rt: &HostRuntime, time: Tag, ms: u32, west: u16, east: u16) -> bool
+fn put_sounder(rt: &HostRuntime, time: Tag, ms: u32, west: u16, east: u16) -> io::Result<()>
     requires { ms + 1400 < 4294967296 }
 {
     let mut words = [0u16; SOUNDER_WORDS];
@@ -441,29 +427,32 @@ fn put_sounder(rt: &HostRuntime, time: Tag, ms: u32, west: u16, east: u16) -> bo
 }
 
 // Twice the same frame, the second time with west and east exchanged, which is refused.
-fn put_sounders(rt: &HostRuntime, ms: u32) -> bool
+fn put_sounders(rt: &HostRuntime, ms: u32) -> io::Result<()>
     requires { ms + 1400 < 4294967296 }
 {
-    put_sounder(rt, at(DAY, ms), ms, 600, 1200) && put_sounder(rt, at(DAY, ms + 100), ms, 1200, 600)
+    put_sounder(rt, at(DAY, ms), ms, 600, 1200)?;
+    put_sounder(rt, at(DAY, ms + 100), ms, 1200, 600)
 }
 
-fn put_all(rt: &HostRuntime) -> bool {
-    put_scan(rt, DAY, 100, PIXELS)
-        && put_blocks_11(rt, 60600)
-        && put_hits(rt, 61000)
-        && put_late(rt, 61500)
-        && put_clock_back(rt, 72000)
-        && put_broken(rt, 72500)
-        && put_scan(rt, LEAP_DAY, 200, FEW_PIXELS)
-        && put_second(rt, 73000)
-        && put_sounders(rt, 73200)
+fn put_all(rt: &HostRuntime) -> io::Result<()> {
+    put_scan(rt, DAY, 100, PIXELS)?;
+    put_blocks_11(rt, 60600)?;
+    put_hits(rt, 61000)?;
+    put_late(rt, 61500)?;
+    put_clock_back(rt, 72000)?;
+    put_broken(rt, 72500)?;
+    put_scan(rt, LEAP_DAY, 200, FEW_PIXELS)?;
+    put_second(rt, 73000)?;
+    put_sounders(rt, 73200)
 }
 
 // Any word, an option or a name, is answered with how it is called.
 fn main(rt: HostRuntime) {
-    if 1 < system::arg_count(&rt) {
-        system::say(&rt, b"usage: sample >RECORDING\n");
+    if 1 < program::arg_count(&rt) {
+        program::say(&rt, b"usage: sample >RECORDING\n");
         return;
     }
-    put_all(&rt);
+    if let Err(error) = put_all(&rt) {
+        program::fail(&rt, b"standard output", error);
+    }
 }

@@ -1,6 +1,6 @@
 -- What has come is within the room, which keeps its length.
 use Rattle.std.proofs.Common.{length, ◌-◌, ◌≡◌, ◌≤◌}
-use Rattle.salvage.proofs.system.read_full.Given as goal
+use Rattle.program.proofs.read_full.Given as goal
 
 abbrev pub invariant-loop-done : goal.invariant-loop-done
 invariant-loop-done g l = (l.done ≤ length l.room) × (length l.room ≡ length l.initial.room)

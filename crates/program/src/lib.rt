@@ -1,4 +1,6 @@
-// What the program asks of the system: its words, files by names of bytes, input to its end, and what is said where a call fails.
+// What the programs ask of the system: their words, files by names of bytes, input to its end, and what is said where a call fails.
+#![tactic(auto)]
+
 ghost use Rattle.std.specs.Prelude.{◌≤◌, length};
 ghost use Rattle.std.specs.Io.{ReadsAtMost};
 
@@ -41,10 +43,7 @@ pub fn arg_count(rt: &HostRuntime) -> usize {
 }
 
 fn path(name: &[u8]) -> io::Result<&str> {
-    match std::str::from_utf8(name) {
-        Ok(path) => Ok(path),
-        Err(_) => Err(Error::from_raw_os_error(NO_TEXT)),
-    }
+    std::str::from_utf8(name).map_err(|_| Error::from_raw_os_error(NO_TEXT))
 }
 
 pub fn open_read(rt: &HostRuntime, name: &[u8]) -> io::Result<File> {
@@ -70,7 +69,7 @@ pub fn unlink(rt: &HostRuntime, name: &[u8]) {
     }
 }
 
-// Reads until the room is full, the input ends or a read fails; the bytes that came.
+// Reads until the room is full, the input ends or a read fails; the bytes that came. No `for` fits: a step is as long as what a read answers.
 pub fn read_full<R: Read>(input: &mut R, room: &mut [u8]) -> usize
     ensures { result ≤ length room.new }
 {

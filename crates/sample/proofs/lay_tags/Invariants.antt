@@ -1,9 +1,0 @@
--- There are fifteen tags.
-use Rattle.std.proofs.Common.{◌-◌, ◌≤◌}
-use Rattle.sample.proofs.lay_tags.Given as goal
-
-abbrev pub invariant-loop-k : goal.invariant-loop-k
-invariant-loop-k l = l.k ≤ 15
-
-abbrev pub decreases-loop-k : goal.decreases-loop-k
-decreases-loop-k l = 15 - l.k
