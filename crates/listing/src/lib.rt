@@ -13,8 +13,7 @@ use recording::Line;
 pub const LINE_BYTES: usize = 105;
 
 // The line of a block: five numbers.
-fn spell_block(line: Line, text: &mut [u8]) -> usize
-    requires { 105 ≤ length text.old }
+fn spell_block(line: Line, text: &mut [u8; LINE_BYTES]) -> usize
     ensures value { result ≡ length (block_text line) }
     ensures upper_bound { result ≤ 105 }
     ensures text_after { text.new ≡ laid text.old 0 (block_text line) }
@@ -27,8 +26,7 @@ fn spell_block(line: Line, text: &mut [u8]) -> usize
 }
 
 // The line of a refusal: three dashes stand for the block's numbers.
-fn spell_refusal(line: Line, text: &mut [u8]) -> usize
-    requires { 105 ≤ length text.old }
+fn spell_refusal(line: Line, text: &mut [u8; LINE_BYTES]) -> usize
     ensures value { result ≡ length (refusal_text line) }
     ensures upper_bound { result ≤ 105 }
     ensures text_after { text.new ≡ laid text.old 0 (refusal_text line) }
@@ -38,8 +36,7 @@ fn spell_refusal(line: Line, text: &mut [u8]) -> usize
     text::put_column(line.answer as u64, b'\n', text, answer)
 }
 
-fn spell_line(line: Line, text: &mut [u8]) -> usize
-    requires { 105 ≤ length text.old }
+fn spell_line(line: Line, text: &mut [u8; LINE_BYTES]) -> usize
     ensures value { result ≡ length (line_text line) }
     ensures upper_bound { result ≤ 105 }
     ensures text_after { text.new ≡ laid text.old 0 (line_text line) }

@@ -10,9 +10,9 @@ const DIGITS: usize = 20;
 
 const COLUMN_BYTES: usize = 21;
 
-// The digits of a number, and the byte that ends its column, at the end of 21 bytes; where the first digit is.
-fn put_digits(n: u64, end: u8, column: &mut [u8]) -> usize
-    requires { length column.old ≡ 21 }
+// The digits of a number, and the byte that ends its column, at the end of 21 bytes; where the first digit is. No `for` fits: how many
+// digits there are is known when the rest has one.
+fn put_digits(n: u64, end: u8, column: &mut [u8; COLUMN_BYTES]) -> usize
     ensures upper_bound { result ≤ 20 }
     ensures column_after { drop result column.new ≡ ended (decimal n) end }
 {
