@@ -8,7 +8,7 @@ use native.Mathlib.Omega.{arith}
 use lib.ListN.{length, get_or}
 use lib.Seq.{take_all}
 use lib.Pow.{pow_pos, high, low, shr-shr}
-use Rattle.std.specs.Int.{w64, from_be_bytes}
+use Rattle.std.specs.Int.{w64, from_le_bytes}
 use Rattle.bits.specs.Bits.{bits, value, words, sent, Below}
 use Rattle.bits.specs.Digits.{digits}
 use Rattle.bits.proofs.LawsBits.{value_bits, intake}
@@ -55,14 +55,14 @@ bits_bytes : (bytes : List ℕ) → Below 256 bytes → sent bytes ≡ bits (0 +
 unfolding bits
 bits_bytes bytes h = bits_behind_bytes 0 0 bytes h
 
--- the number of eight bytes, the first one highest, as the library has it
-pub bytes_high_first : (bytes : List ℕ) → length bytes ≡ 8 → Below 256 bytes → bits 64 (from_be_bytes w64 bytes) ≡ sent bytes
-bytes_high_first bytes l below =
+-- the number of eight bytes, the first one lowest, as the library has it
+pub bytes_low_first : (bytes : List ℕ) → length bytes ≡ 8 → Below 256 bytes → digits 256 8 (from_le_bytes w64 bytes) ≡ bytes
+bytes_low_first bytes l below =
     let byte : ℕ → ℕ = λ i. get_or bytes i 0 in
     let eight = byte 0 ∷ byte 1 ∷ byte 2 ∷ byte 3 ∷ byte 4 ∷ byte 5 ∷ byte 6 ∷ byte 7 ∷ [] in
     let all : bytes ≡ eight = sym (take_all 8 bytes (omega arith)) ∙ part_eight bytes 0 (omega arith) in
-    let same : from_be_bytes w64 bytes ≡ behind 0 eight = omega arith in
-    ap (bits 64) same ∙ sym (bits_bytes eight (subst (Below 256) all below)) ∙ ap sent (sym all)
+    let same : from_le_bytes w64 bytes ≡ from_digits 8 eight = omega arith in
+    ap (digits 256 8) same ∙ digits_from 8 eight (subst (Below 256) all below) ∙ sym all
 
 eight_sum : (a b c d e f g h : ℕ)
     → (a * 2 ^ 24 + b * 2 ^ 16 + c * 256 + d) * 2 ^ 32 + (e * 2 ^ 24 + f * 2 ^ 16 + g * 256 + h)
@@ -112,6 +112,9 @@ pub turned_value : (x : ℕ) → eight_turned x ≡ value (sent (digits 256 8 x)
 turned_value x =
     let small : eight_turned x < 2 ^ 64 = omega arith in
     sym (mod-eq_of_lt small) ∙ sym (value_bits 64 (eight_turned x)) ∙ ap value (eight_bits x)
+
+pub turned_bits : (x : ℕ) → bits 64 (value (sent (digits 256 8 x))) ≡ sent (digits 256 8 x)
+turned_bits x = ap (bits 64) (sym (turned_value x)) ∙ eight_bits x
 
 pub turned_digits : (x : ℕ) → digits 256 8 (value (sent (digits 256 8 x))) ≡ words 8 8 (bits 64 x)
 turned_digits x = ap (digits 256 8) (sym (turned_value x)) ∙ eight_words x

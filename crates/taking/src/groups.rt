@@ -10,13 +10,14 @@ ghost use Rattle.taking.specs.Halves.{low_bits};
 use crate::each::take_each;
 use bits::fitting::{SIX, TEN};
 
-// The eight bytes of the field from `at` on as a number, the first one highest: a group, and the bytes behind it that come with the load.
+// The eight bytes of the field from `at` on as a number, the first one highest: a group, and the bytes behind it that come with the load. They
+// are read with the first one lowest, which a compiler makes one load of, and then turned: `from_be_bytes` it takes byte by byte.
 fn eight_from(field: &[u8], at: usize) -> u64
     requires { at + 8 ≤ length field.now }
     ensures { bits 64 result ≡ sent (take 8 (drop at field.now)) }
 {
     let eight: &[u8; 8] = field[at..].first_chunk().unwrap();
-    u64::from_be_bytes(*eight)
+    bits::turned(u64::from_le_bytes(*eight))
 }
 
 // The low `size` bits of both halves of `x`.
