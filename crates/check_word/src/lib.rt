@@ -20,9 +20,8 @@ pub fn check_word(message: &[u8]) -> u16
 pub fn passes(s: &[u8]) -> bool
     ensures { result ≡ check.passes s.now }
 {
-    if s.len() < CHECK_BYTES {
+    let Some((message, check)) = s.split_last_chunk::<CHECK_BYTES>() else {
         return false;
-    }
-    let end = s.len() - CHECK_BYTES;
-    check_word(&s[..end]) == bits::two_bytes(s[end], s[end + 1])
+    };
+    check_word(message) == u16::from_be_bytes(*check)
 }
