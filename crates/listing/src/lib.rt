@@ -65,13 +65,10 @@ pub fn put_line(line: Line, room: &mut [u8]) -> usize
     text::put_text(&text[..end], room)
 }
 
-fn last_word(cut: bool) -> [u8; 4]
-    ensures { result ≡ last_word cut }
+fn last_word(cut: bool) -> &'static [u8]
+    ensures { result.now ≡ last_word cut }
 {
-    if cut {
-        return [b'c', b'u', b't', b' '];
-    }
-    [b'e', b'n', b'd', b' ']
+    if cut { b"cut " } else { b"end " }
 }
 
 // The last line, with the number of complete fields: whether the recording is cut behind them, or ends there.
@@ -80,8 +77,7 @@ pub fn put_last(cut: bool, count: u64, room: &mut [u8]) -> usize
     ensures room_after { room.new ≡ laid_inside room.old 0 (last_text cut count) }
 {
     let mut text = [0u8; LINE_BYTES];
-    let word = last_word(cut);
-    let number = text::put_part(&word, &mut text, 0);
+    let number = text::put_part(last_word(cut), &mut text, 0);
     let end = text::put_column(count, b'\n', &mut text, number);
     text::put_text(&text[..end], room)
 }

@@ -13,46 +13,38 @@ const SPAN: usize = 8;
 // Two columns of a number, the longer kind and three copies, each with the byte that ends it.
 pub const LINE_BYTES: usize = 54;
 
-// What was found, and the space behind it, from `at` on; where the changed copies start.
-fn put_kind(found: usize, text: &mut [u8], at: usize) -> usize
-    ensures value { result ≡ ends_at text.old at (ended (kind_text found) 0x20) }
-    ensures text_after { text.new ≡ laid_inside text.old at (ended (kind_text found) 0x20) }
-    ensures upper_bound { result ≤ at + 6 }
+// What was found, and the space behind it.
+fn kind_column(found: usize) -> &'static [u8]
+    ensures { result.now ≡ ended (kind_text found) 0x20 }
 {
-    if found == SPAN {
-        return text::put_part(b"span ", text, at);
-    }
-    text::put_part(b"block ", text, at)
+    if found == SPAN { b"span " } else { b"block " }
 }
 
-// The changed copies and LF, from `at` on; where they end. Copies 1, 2 and 3 are 1, 2 and 4 of what was found, and a span has none.
-fn put_changed(found: usize, text: &mut [u8], at: usize) -> usize
-    ensures value { result ≡ ends_at text.old at (ended (changed_text found) 0x0A) }
-    ensures text_after { text.new ≡ laid_inside text.old at (ended (changed_text found) 0x0A) }
-    ensures upper_bound { result ≤ at + 6 }
+// The changed copies and LF. Copies 1, 2 and 3 are 1, 2 and 4 of what was found, and a span has none.
+fn changed_column(found: usize) -> &'static [u8]
+    ensures { result.now ≡ ended (changed_text found) 0x0A }
 {
     match found % 8 {
-        0 => text::put_part(b"-\n", text, at),
-        1 => text::put_part(b"1\n", text, at),
-        2 => text::put_part(b"2\n", text, at),
-        3 => text::put_part(b"1,2\n", text, at),
-        4 => text::put_part(b"3\n", text, at),
-        5 => text::put_part(b"1,3\n", text, at),
-        6 => text::put_part(b"2,3\n", text, at),
-        _ => text::put_part(b"1,2,3\n", text, at),
+        0 => b"-\n",
+        1 => b"1\n",
+        2 => b"2\n",
+        3 => b"1,2\n",
+        4 => b"3\n",
+        5 => b"1,3\n",
+        6 => b"2,3\n",
+        _ => b"1,2,3\n",
     }
 }
 
-fn spell_entry(start: usize, bytes: usize, found: usize, text: &mut [u8]) -> usize
-    requires { 54 ≤ length text.old }
+fn spell_entry(start: usize, bytes: usize, found: usize, text: &mut [u8; LINE_BYTES]) -> usize
     ensures value { result ≡ length (entry_text start bytes found) }
     ensures upper_bound { result ≤ 54 }
     ensures text_after { text.new ≡ laid text.old 0 (entry_text start bytes found) }
 {
     let length = text::put_column(start as u64, b' ', text, 0);
     let kind = text::put_column(bytes as u64, b' ', text, length);
-    let changed = put_kind(found, text, kind);
-    put_changed(found, text, changed)
+    let changed = text::put_part(kind_column(found), text, kind);
+    text::put_part(changed_column(found), text, changed)
 }
 
 // The first line, which names the columns.

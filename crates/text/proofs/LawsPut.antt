@@ -46,6 +46,11 @@ module _ {text₀ xs text : List ℕ} {at : ℕ} (p : Put text₀ xs text at) wh
         ends = e ∙ ends ∙ omega (arith, p.ends, length-append xs ys);
       }
 
+  -- so too where the part is said otherwise
+  pub more_as : {part ys : List ℕ} {text' : List ℕ} {at' : ℕ} → part ≡ ys → at' ≡ ends_at text at part → text' ≡ laid_inside text at part
+      → at + length ys ≤ length text₀ → Put text₀ (xs ++ ys) text' at'
+  more_as {ys = ys} same e l h = more ys (e ∙ ap (ends_at text at) same) (l ∙ ap (laid_inside text at) same) h
+
   pub more_column : (n end : ℕ) {text' : List ℕ} {at' : ℕ} → n < 18446744073709551616 → at' ≡ ends_at text at (ended (decimal n) end)
       → text' ≡ laid_inside text at (ended (decimal n) end) → at + 21 ≤ length text₀ → Put text₀ (xs ++ ended (decimal n) end) text' at'
   more_column n end b e l h = more (ended (decimal n) end) e l (omega (arith, column_fits n end b))

@@ -1,15 +1,9 @@
 -- `listing::put_line` meets its contract: the line is put together by itself, and then laid whole or not at all.
 -- Assumes nothing.
-use mathlib.Core.Path.{sym}
-use native.Mathlib.Omega.{arith}
 use lib.ListN.{replicate}
-use lib.Seq.{length-take-le}
 use Rattle.listing.specs.Texts.{line_text}
 use Rattle.text.proofs.LawsPut.{Put, into}
 use Rattle.listing.proofs.put_line.Goals as goal
-
-pub slice_bounds-put_text-end : goal.slice_bounds-put_text-end
-slice_bounds-put_text-end c = sym (length-take-le c.spell_line-end.result c.spell_line-end.new.text (omega arith))
 
 pub returns : goal.returns
 returns c =

@@ -1,15 +1,9 @@
 -- `report::put_entry` meets its contract: the line is put together by itself, and then laid whole or not at all.
 -- Assumes nothing.
-use mathlib.Core.Path.{sym}
-use native.Mathlib.Omega.{arith}
 use lib.ListN.{replicate}
-use lib.Seq.{length-take-le}
 use Rattle.text.proofs.LawsPut.{Put, into}
 use Rattle.report.specs.Texts.{entry_text}
 use Rattle.report.proofs.put_entry.Goals as goal
-
-pub slice_bounds-put_text-end : goal.slice_bounds-put_text-end
-slice_bounds-put_text-end c = sym (length-take-le c.spell_entry-end.result c.spell_entry-end.new.text (omega arith))
 
 pub returns : goal.returns
 returns c =

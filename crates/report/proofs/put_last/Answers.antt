@@ -1,18 +1,13 @@
 -- `report::put_last` meets its contract: the line is put together by itself, and then laid whole or not at all.
 -- Assumes nothing.
-use mathlib.Core.Path.{sym}
 use mathlib.Core.List.{List}
 use Prim.Native.Nat.{ℕ}
 use native.Mathlib.Omega.{arith}
 use lib.ListN.{replicate}
-use lib.Seq.{length-take-le}
 use Rattle.text.specs.Texts.{bytes_of}
 use Rattle.text.proofs.LawsPut.{nothing, more, more_column, into}
 use Rattle.report.specs.Texts.{last_text}
 use Rattle.report.proofs.put_last.Goals as goal
-
-pub slice_bounds-put_text-end : goal.slice_bounds-put_text-end
-slice_bounds-put_text-end c = sym (length-take-le c.put_column-end.result c.put_column-end.new.room (omega arith))
 
 pub returns : goal.returns
 unfolding last_text
