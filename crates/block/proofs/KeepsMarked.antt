@@ -17,8 +17,8 @@ use Rattle.check_rule.specs.Finds.{Passes}
 use Rattle.copies.specs.Copies.{header_length, copies_length, copy_at}
 use Rattle.copies.specs.Agreed.{Agreed}
 use Rattle.copies.proofs.LawsAgreed.{agreed_none}
-use Rattle.block.specs.declared.Answer.{Answer}
-use Rattle.block.specs.declared.Judged.{Judged}
+use Rattle.block.specs.Answers.{Answer}
+use Rattle.block.specs.Answers.{Judged}
 use Rattle.block.specs.Grounds.{refusal_by}
 use Rattle.block.specs.Answers.{refused_answer, answer_of, room_after, judged_by, room_by}
 use Rattle.block.specs.Promises.{Accepted, MarkUnread, MarkedApart, ReadsMarkedAlike}

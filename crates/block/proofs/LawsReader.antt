@@ -17,16 +17,16 @@ use Rattle.ground.proofs.LawsGrounds.{none_first, first_none, first_then, accept
 use Rattle.bits.specs.Fields.{words_of, bad_size, fit, take_answer, room_taken}
 use Rattle.check_rule.specs.Check.{passes}
 use Rattle.row.specs.Promises.{Held}
-use Rattle.copies.specs.declared.Common.{Common}
+use Rattle.copies.specs.Copies.{CommonAnswer}
 use Rattle.copies.specs.Copies.{header_length, copy_length, copies_length, copy_at, common, common_in, header_in, copies_grounds, found_common, common_of}
 use Rattle.copies.proofs.LawsAgreed.{copy_long}
 use Rattle.copies.proofs.KeepsCopies.{common_number, common_found}
-use Rattle.header.specs.declared.Plan.{Plan}
+use Rattle.header.specs.Plans.{PlanAnswer}
 use Rattle.header.specs.Says.{words_in, bytes_in}
 use Rattle.header.specs.Plans.{header_grounds, granted_plan, plan_of}
 use Rattle.header.proofs.LawsThen.{header_decides, others_decide, plan_is, plan_held}
-use Rattle.block.specs.declared.Answer.{Answer}
-use Rattle.block.specs.declared.Judged.{Judged}
+use Rattle.block.specs.Answers.{Answer}
+use Rattle.block.specs.Answers.{Judged}
 use Rattle.block.specs.Layout.{block_length, information_field}
 use Rattle.block.specs.Grounds.{wrong_length, field_grounds, field_by, refusal_by, refusal_of}
 use Rattle.block.specs.Answers.{refused_judged, accepted_judged, judged_by, words_laid, room_by, refused_answer, answer_with, accepted_answer, answer_of, room_after}
@@ -77,7 +77,7 @@ module _ (h block room : List ℕ) where
   unfolding judged_by room_by
   accepted_by e = (accepts (accepted_judged h) refused_judged e, accepts (words_laid h block room) (λ _. room) e)
 
-  module _ {p : Plan} (e : p ≡ plan_of h) where
+  module _ {p : PlanAnswer} (e : p ≡ plan_of h) where
     pub header_refused : (p.number ≡ 0 → ⊥) → EndsBy (refused_judged p.number) room
     unfolding refusal_by
     header_refused f = refused_by (header_decides h e (field_by h block (length room)) f) f
@@ -87,7 +87,7 @@ module _ (h block room : List ℕ) where
       granted = plan_is h e z
 
       field_number : first_of (field_by h block (length room)) ≡ n
-      field_number = sym (m ∙ ap (λ (q : Plan). first_of (field_grounds q.size q.words q.bytes block (length room))) granted)
+      field_number = sym (m ∙ ap (λ (q : PlanAnswer). first_of (field_grounds q.size q.words q.bytes block (length room))) granted)
 
       number_by : refusal_by h block (length room) ≡ n
       unfolding refusal_by
@@ -100,7 +100,7 @@ module _ (h block room : List ℕ) where
         pub field_held : Held p.size p.words p.bytes × ((length block ≡ block_length p.bytes) × (p.words ≤ length room))
         field_held =
             let f = first_none (field_by h block (length room)) refl (field_number ∙ none) in
-            subst (λ (q : Plan). Held q.size q.words q.bytes × ((length block ≡ block_length q.bytes) × (q.words ≤ length room))) (sym granted)
+            subst (λ (q : PlanAnswer). Held q.size q.words q.bytes × ((length block ≡ block_length q.bytes) × (q.words ≤ length room))) (sym granted)
             (plan_held h e z, (right_length (bytes_in h) block refl f.0, ltb-false (length room) (words_in h) f.1.1.0))
 
         pub field_read : {after : List ℕ} → after ≡ words_of p.size p.words (information_field p.bytes block) ++ drop p.words room
@@ -142,18 +142,17 @@ module _ (block : List ℕ) where
     unfolding answer_of
     accepted_whole e = accepts (accepted_answer block) refused_answer e
 
-    module _ {common : Common} (e : common ≡ common_of block) where
+    module _ {common : CommonAnswer} (e : common ≡ common_of block) where
       copies_number : first_of (copies_grounds block) ≡ common.number
-      copies_number = sym (ap (λ (c : Common). c.number) e ∙ common_number block)
+      copies_number = sym (ap (λ (c : CommonAnswer). c.number) e ∙ common_number block)
 
-      pub copies_refused : {r : Answer} → (common.number ≡ 0 → ⊥) → r ≡ refused_answer common.number → Ends r room
+      pub copies_refused : (common.number ≡ 0 → ⊥) → Ends (refused_answer common.number) room
       unfolding refusal_of
-      copies_refused f c =
+      copies_refused f =
           let rest = first_of (header_grounds h ++ field_by h block (length room)) in
-          let x = refused_whole
+          refused_whole
           (first_then (copies_grounds block) (header_grounds h ++ field_by h block (length room)) refl
-          ∙ ap (λ (n : ℕ). pick (eqb n 0) rest n) copies_number ∙ sym (no rest refl (ne_eqb common.number 0 f) refl)) f in
-          (c ∙ x.0, x.1)
+          ∙ ap (λ (n : ℕ). pick (eqb n 0) rest n) copies_number ∙ sym (no rest refl (ne_eqb common.number 0 f) refl)) f
 
       module _ (z : common.number ≡ 0) {judged : Judged} {after : List ℕ}
           (j : judged ≡ judged_by common.header block (length room)) (a : after ≡ room_by common.header block room) where
@@ -161,10 +160,10 @@ module _ (block : List ℕ) where
         found_is = e ∙ common_found block (copies_number ∙ z)
 
         judged_is : judged ≡ judged_by h block (length room)
-        judged_is = j ∙ ap (λ (c : Common). judged_by c.header block (length room)) found_is
+        judged_is = j ∙ ap (λ (c : CommonAnswer). judged_by c.header block (length room)) found_is
 
         left_is : after ≡ room_after block room
-        left_is = a ∙ ap (λ (c : Common). room_by c.header block room) found_is ∙ sym (room_alike room (copies_number ∙ z))
+        left_is = a ∙ ap (λ (c : CommonAnswer). room_by c.header block room) found_is ∙ sym (room_alike room (copies_number ∙ z))
 
         number_by_header : refusal_by h block (length room) ≡ judged.number
         number_by_header = sym (ap (λ (r : Judged). r.number) judged_is ∙ judged_number h block (length room))
@@ -172,10 +171,10 @@ module _ (block : List ℕ) where
         number_whole : refusal_of block (length room) ≡ judged.number
         number_whole = refused_alike (length room) (copies_number ∙ z) ∙ number_by_header
 
-        pub rest_refused : {r : Answer} → (judged.number ≡ 0 → ⊥) → r ≡ refused_answer judged.number → Ends r after
-        rest_refused f c = (c ∙ (refused_whole number_whole f).0, left_is)
+        pub rest_refused : (judged.number ≡ 0 → ⊥) → Ends (refused_answer judged.number) after
+        rest_refused f = ((refused_whole number_whole f).0, left_is)
 
-        pub whole_read : {r : Answer} → judged.number ≡ 0 → r ≡ answer_with common judged.words → Ends r after
-        whole_read none c =
+        pub whole_read : judged.number ≡ 0 → Ends (answer_with common judged.words) after
+        whole_read none =
             let words : judged.words ≡ words_in h = ap (λ (r : Judged). r.words) (judged_is ∙ sym (accepted_by h block room (number_by_header ∙ none)).0) in
-            (c ∙ (λ i. answer_with (found_is i) (words i)) ∙ accepted_whole (number_whole ∙ none), left_is)
+            ((λ i. answer_with (found_is i) (words i)) ∙ accepted_whole (number_whole ∙ none), left_is)
