@@ -19,8 +19,7 @@ use Rattle.header.specs.Plans.{plan_grounds}
 use Rattle.header.specs.Asks.{Asks}
 use Rattle.header.proofs.LawsAsks.{none_asks, asks_none, asked_block, asked_words}
 use Rattle.block.specs.Layout.{block_length}
-use Rattle.writer.specs.declared.Written.{Written}
-use Rattle.writer.specs.Answers.{block_bytes, written_block, word_grounds, write_grounds, write_refusal, refused_written, written_of}
+use Rattle.writer.specs.Answers.{Written, block_bytes, written_block, word_grounds, write_grounds, write_refusal, refused_written, written_of}
 use Rattle.writer.specs.Promises.{Writable, RefusesInOrder, RefusesExactly, RefusalLeaves, AsksFor, WritesExactly, WritesFront}
 use Rattle.writer.proofs.LawsBlocks.{length_block}
 use Rattle.writer.proofs.LawsWrite.{refused, accepted}

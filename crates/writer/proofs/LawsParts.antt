@@ -134,9 +134,9 @@ module _ (h ws room : List ℕ) (size bytes : ℕ) (held : Held size (length ws)
         ∙ ap (λ (t : List ℕ). c ++ t) (sym (append_assoc f k (drop (block_length bytes) room)))
         ∙ sym (append_assoc c (f ++ k) (drop (block_length bytes) room))
 
-    pub accepted : {answer : ℕ} {one two three : List ℕ} → answer ≡ put_answer size ws (90 + bytes - 90) → answer ≡ 0 → one ≡ filled (field_put size ws part)
+    pub accepted : {one two three : List ℕ} → 0 ≡ put_answer size ws (90 + bytes - 90) → one ≡ filled (field_put size ws part)
         → two ≡ laid one 0 (copies_of h) → three ≡ laid two (90 + bytes) (bytes_of (check_word (take (90 + bytes - 90) (drop 90 two)))) → Done 0 three
-    accepted {answer} {one} {two} {three} e zero put e₂ e₃ = by (all_fit size ws) (sym zero ∙ e ∙ answer_is) (put ∙ ap filled field_put_is)
+    accepted {one} {two} {three} e put e₂ e₃ = by (all_fit size ws) (e ∙ answer_is) (put ∙ ap filled field_put_is)
       where
         by : (t : Bool) → ◌≡◌ {A = ℕ} 0 (pick t 0 14) → one ≡ filled (pick t (field_of size bytes ws) part)
             → (◌≡◌ {A = ℕ} 0 (pick t 0 14)) × (three ≡ pick t (block_of h size bytes ws ++ drop (block_length bytes) room) room)

@@ -13,14 +13,13 @@ use Rattle.ground.proofs.LawsChoice.{yes, no}
 use Rattle.ground.proofs.LawsGrounds.{accepts, refuses}
 use Rattle.bits.specs.Fields.{all_fit}
 use Rattle.row.specs.Promises.{Held}
+use Rattle.copies.specs.Copies.{header_length}
 use Rattle.header.specs.Says.{size_in, words_in, bytes_in}
-use Rattle.header.specs.Plans.{plan_of, granted_plan}
-use Rattle.header.specs.declared.Plan.{Plan}
+use Rattle.header.specs.Plans.{PlanAnswer, plan_of, granted_plan}
 use Rattle.header.proofs.LawsThen.{header_decides, others_decide, plan_is, plan_held}
 use Rattle.block.specs.Layout.{block_length}
-use Rattle.writer.specs.declared.Written.{Written}
 use Rattle.writer.specs.Blocks.{block_of}
-use Rattle.writer.specs.Answers.{block_bytes, written_block, word_grounds, write_refusal, refused_written, written_of, room_written}
+use Rattle.writer.specs.Answers.{Written, block_bytes, written_block, word_grounds, write_refusal, refused_written, written_of, room_written}
 
 module _ (h ws : List ℕ) where
   module _ (room : List ℕ) where
@@ -38,34 +37,35 @@ module _ (h ws : List ℕ) where
 
 -- ---- the writer's ends, one for each return
 
-module _ (h ws room : List ℕ) {p : Plan} (e : p ≡ plan_of h) where
-  abbrev pub Ends : Written → List ℕ → Type 0
-  Ends r after = (r ≡ written_of h ws (length room)) × (after ≡ room_written h ws room)
+abbrev pub Ends : (h ws room : List ℕ) → Written → List ℕ → Type 0
+Ends h ws room r after = (r ≡ written_of h ws (length room)) × (after ≡ room_written h ws room)
 
-  ends : {n : ℕ} {r : Written} → r ≡ refused_written n → write_refusal h ws (length room) ≡ n → (n ≡ 0 → ⊥) → Ends r room
-  ends c k f = let x = refused h ws room k f in (c ∙ x.0, x.1)
+pub short_refused : (h ws room : List ℕ) → (length h ≡ header_length → ⊥) → Ends h ws room (refused_written 1) room
+unfolding write_refusal
+short_refused h ws room f = refused h ws room (sym (yes _ refl (ap not (ne_eqb (length h) header_length f)) refl)) (λ k. omega arith)
 
-  pub header_refused : {r : Written} → (p.number ≡ 0 → ⊥) → r ≡ refused_written p.number → Ends r room
+module _ (h ws room : List ℕ) {p : PlanAnswer} (e : p ≡ plan_of h) where
+  pub header_refused : (p.number ≡ 0 → ⊥) → Ends h ws room (refused_written p.number) room
   unfolding write_refusal
-  header_refused f c = ends c (header_decides h e (word_grounds h ws (length room)) f) f
+  header_refused f = refused h ws room (header_decides h e (word_grounds h ws (length room)) f) f
 
   module _ (z : p.number ≡ 0) where
     granted : p ≡ granted_plan h
     granted = plan_is h e z
 
     words_is : p.words ≡ words_in h
-    words_is = ap (λ (q : Plan). q.words) granted
+    words_is = ap (λ (q : PlanAnswer). q.words) granted
 
     bytes_is : p.bytes ≡ bytes_in h
-    bytes_is = ap (λ (q : Plan). q.bytes) granted
+    bytes_is = ap (λ (q : PlanAnswer). q.bytes) granted
 
     size_is : p.size ≡ size_in h
-    size_is = ap (λ (q : Plan). q.size) granted
+    size_is = ap (λ (q : PlanAnswer). q.size) granted
 
-    pub length_refused : {r : Written} → (length ws ≡ p.words → ⊥) → r ≡ refused_written 8 → Ends r room
+    pub length_refused : (length ws ≡ p.words → ⊥) → Ends h ws room (refused_written 8) room
     unfolding write_refusal
-    length_refused f c =
-        ends c
+    length_refused f =
+        refused h ws room
         (others_decide h e (word_grounds h ws (length room)) z ∙ sym (yes _ refl (ap not (ne_eqb (length ws) (words_in h) (λ k. f (k ∙ sym words_is)))) refl))
         (λ k. omega arith)
 
@@ -73,16 +73,16 @@ module _ (h ws room : List ℕ) {p : Plan} (e : p ≡ plan_of h) where
       counted : not (eqb (length ws) (words_in h)) ≡ false
       counted = ap not (eq-eqb (length ws) (words_in h) (l ∙ words_is))
 
-      pub room_refused : {r : Written} → length room < block_length p.bytes → r ≡ refused_written 9 → Ends r room
+      pub room_refused : length room < block_length p.bytes → Ends h ws room (refused_written 9) room
       unfolding write_refusal
-      room_refused small c =
-          ends c
+      room_refused small =
+          refused h ws room
           (others_decide h e (word_grounds h ws (length room)) z
           ∙ sym (no _ refl counted (yes _ refl (lt-ltb (length room) (block_bytes h) (subst (λ (n : ℕ). length room < block_length n) bytes_is small)) refl)))
           (λ k. omega arith)
 
       pub held : Held p.size (length ws) p.bytes
-      held = subst (λ (q : Plan). Held q.size (length ws) q.bytes) (sym granted) (subst (λ (n : ℕ). Held (size_in h) n (bytes_in h)) (sym (l ∙ words_is)) (plan_held h e z))
+      held = subst (λ (q : PlanAnswer). Held q.size (length ws) q.bytes) (sym granted) (subst (λ (n : ℕ). Held (size_in h) n (bytes_in h)) (sym (l ∙ words_is)) (plan_held h e z))
 
       module _ (roomy : block_length p.bytes ≤ length room) where
         last_ground : write_refusal h ws (length room) ≡ pick (all_fit p.size ws) 0 14
@@ -98,16 +98,16 @@ module _ (h ws room : List ℕ) {p : Plan} (e : p ≡ plan_of h) where
 
         module _ {answer : ℕ} {after : List ℕ} (a : answer ≡ pick (all_fit p.size ws) 0 14)
             (put : after ≡ pick (all_fit p.size ws) (block_of h p.size p.bytes ws ++ drop (block_length p.bytes) room) room) where
-          pub word_refused : {r : Written} → (answer ≡ 0 → ⊥) → r ≡ refused_written answer → Ends r after
-          word_refused f c =
-              let x = ends c (last_ground ∙ sym a) f in
+          pub word_refused : (answer ≡ 0 → ⊥) → Ends h ws room (refused_written answer) after
+          word_refused f =
+              let x = refused h ws room (last_ground ∙ sym a) f in
               (x.0, put ∙ by (all_fit p.size ws) a ∙ x.1)
             where
               by : (t : Bool) → answer ≡ pick t 0 14 → pick t (block_of h p.size p.bytes ws ++ drop (block_length p.bytes) room) room ≡ room
               by true k = absurd (f k)
               by false k = refl
 
-          pub block_written : answer ≡ 0 → Ends (record { number = 0; bytes = block_length p.bytes }) after
+          pub block_written : answer ≡ 0 → Ends h ws room (record { number = 0; bytes = block_length p.bytes }) after
           block_written zero =
               let x = accepted h ws room (last_ground ∙ sym a ∙ zero) (put ∙ by (all_fit p.size ws) (sym a ∙ zero) ∙ ap₂ (λ (s b : ℕ). block_of h s b ws ++ drop (block_length b) room) size_is bytes_is) in
               (ap (λ (b : ℕ). record { number = 0; bytes = block_length b }) bytes_is ∙ x.0, x.1)

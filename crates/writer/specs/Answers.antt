@@ -1,13 +1,14 @@
 -- What writing a block answers, and what it leaves in the room lent.
 -- Assumes nothing.
-use Rattle.std.specs.Prelude.{ℕ, not, List, [], ◌∷◌, ◌++◌, eqb, ltb, length, drop}
+use Rattle.std.specs.Prelude.{ℕ, not, List, [], ◌∷◌, ◌++◌, eqb, ltb, length, drop, Result, Ok, Err}
 use Rattle.ground.specs.Choice.{pick}
 use Rattle.ground.specs.Grounds.{Ground, ◌when◌, first_of}
+use Rattle.ground.specs.declared.Refusal.{Refusal}
+use Rattle.ground.specs.Refusals.{number_of}
 use Rattle.bits.specs.Fields.{all_fit}
 use Rattle.header.specs.Says.{size_in, words_in, bytes_in}
 use Rattle.header.specs.Plans.{plan_grounds}
 use Rattle.block.specs.Layout.{block_length}
-use Rattle.writer.specs.declared.Written.{Written}
 use Rattle.writer.specs.Blocks.{block_of}
 
 -- the bytes of the block that a header asks for
@@ -33,6 +34,11 @@ write_grounds header words room = plan_grounds header ++ word_grounds header wor
 unfoldable pub write_refusal : (header words : List ℕ) → ℕ → ℕ
 write_refusal header words room = first_of (write_grounds header words room)
 
+-- the answer as numbers: 0 and the bytes written, or a refusal's number and 0
+pub record Written : Type 0 where
+  pub number : ℕ
+  pub bytes : ℕ
+
 abbrev pub refused_written : ℕ → Written
 refused_written n = record { number = n; bytes = 0 }
 
@@ -46,3 +52,8 @@ unfoldable pub room_written : (header words room : List ℕ) → List ℕ
 room_written header words room =
     pick (eqb (write_refusal header words (length room)) 0)
     (written_block header words ++ drop (block_bytes header) room) room
+
+-- what is told of an answer
+abbrev pub told : Result ℕ Refusal → Written
+told (Ok n) = record { number = 0; bytes = n }
+told (Err r) = refused_written (number_of r)

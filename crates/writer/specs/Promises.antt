@@ -7,9 +7,8 @@ use Rattle.row.specs.Field.{field_bytes}
 use Rattle.copies.specs.Copies.{header_length}
 use Rattle.copies.specs.Agreed.{ThreeEqual}
 use Rattle.header.specs.Asks.{Asks}
-use Rattle.block.specs.declared.Answer.{Answer}
 use Rattle.block.specs.Layout.{block_length}
-use Rattle.block.specs.Answers.{answer_of, room_after}
+use Rattle.block.specs.Answers.{Answer, answer_of, room_after}
 use Rattle.block.specs.Meets.{Meets}
 use Rattle.block.specs.Promises.{Accepted}
 use Rattle.writer.specs.Answers.{written_block, write_grounds, refused_written, written_of, room_written}
