@@ -17,20 +17,19 @@ use Rattle.row.proofs.LawsRow.{before_3}
 use Rattle.header.specs.Says.{words_in}
 use Rattle.header.specs.Plans.{plan_of}
 use Rattle.header.proofs.LawsThen.{others_decide}
-use Rattle.records.specs.declared.Part.{Part}
-use Rattle.records.specs.Records.{records_of, record_length, record_start, record_grounds, grounds_of, refusal_of, refused_part, part_of, record_of, joined_to}
+use Rattle.records.specs.Records.{PartAnswer, records_of, record_length, record_start, record_grounds, grounds_of, refusal_of, refused_part, part_of, record_of, joined_to}
 use Rattle.records.specs.Promises.{RefusesInOrder, RefusesExactly, Finds, RecordsLong, JoinsToWords, SharesEvenly}
 use Rattle.records.proofs.LawsRecords.{one_record, length_by, shares_evenly, documented, accepted}
 
 -- ---- refusals, and the part found
 
 -- the part of record k
-abbrev lies : (h : List ℕ) (k : ℕ) → Part
+abbrev lies : (h : List ℕ) (k : ℕ) → PartAnswer
 lies h k = record { number = 0; start = record_start h k; length = record_length h }
 
 pub refuses_in_order : RefusesInOrder
 unfolding part_of refusal_of
-refuses_in_order h k words = reads_number (lies h k) refused_part (λ (p : Part). p.number) refl (λ n. refl) (refusal_of h k words)
+refuses_in_order h k words = reads_number (lies h k) refused_part (λ (p : PartAnswer). p.number) refl (λ n. refl) (refusal_of h k words)
 
 pub refuses_exactly : RefusesExactly
 refuses_exactly h k words = exactly (grounds_of h k words) refl refl (refuses_in_order h k words)
@@ -54,7 +53,7 @@ module _ (h : List ℕ) (k words : ℕ) where
   some : (part_of h k words).number ≡ 0 → 16 < (part_of h k words).length
   some e =
       let a = only e in
-      subst (λ (p : Part). 16 < p.length) (sym (located a.0 a.1 a.2 a.3)) (documented h a.0 (omega (arith, a.1, a.2)))
+      subst (λ (p : PartAnswer). 16 < p.length) (sym (located a.0 a.1 a.2 a.3)) (documented h a.0 (omega (arith, a.1, a.2)))
 
   empty : ((part_of h k words).number ≡ 0 → ⊥) → part_of h k words ≡ refused_part (part_of h k words).number
   unfolding part_of
@@ -78,7 +77,7 @@ module _ (h ws : List ℕ) (z : (plan_of h).number ≡ 0) (enough : words_in h �
   record_at : (k : ℕ) → suc k ≤ records_of h → record_of h (suc k) ws ≡ take (record_length h) (drop (k * record_length h) ws)
   record_at k l =
       let back : suc k - 1 ≡ k = omega arith in
-      ap (λ (q : Part). take q.length (drop q.start ws)) (located h (suc k) (length ws) z (omega arith) l enough)
+      ap (λ (q : PartAnswer). take q.length (drop q.start ws)) (located h (suc k) (length ws) z (omega arith) l enough)
       ∙ ap (λ (n : ℕ). take (record_length h) (drop (n * record_length h) ws)) back
 
   joined : (k : ℕ) → k ≤ records_of h → joined_to h ws k ≡ take (k * record_length h) ws

@@ -17,13 +17,11 @@ use Rattle.row.specs.declared.Row.{Row}
 use Rattle.row.proofs.LawsRow.{row_others, row_records, before_3}
 use Rattle.header.specs.Says.{block_in, version_in, size_in, words_in}
 use Rattle.header.specs.Asks.{Asks}
-use Rattle.header.specs.Plans.{plan_grounds, plan_of}
-use Rattle.header.specs.declared.Plan.{Plan}
+use Rattle.header.specs.Plans.{PlanAnswer, plan_grounds, plan_of}
 use Rattle.header.proofs.KeepsHeader.{plan_number, grants_asked}
 use Rattle.header.proofs.LawsAsks.{asked_block, asked_words}
 use Rattle.header.proofs.LawsThen.{header_decides, others_decide, plan_is}
-use Rattle.records.specs.declared.Part.{Part}
-use Rattle.records.specs.Records.{records_of, record_length, record_start, no_record, record_grounds, grounds_of, refusal_of, refused_part, part_of}
+use Rattle.records.specs.Records.{PartAnswer, records_of, record_length, record_start, no_record, record_grounds, grounds_of, refusal_of, refused_part, part_of}
 
 -- ---- the words are shared evenly among the records
 
@@ -64,34 +62,34 @@ module _ (h : List ℕ) (z : (plan_of h).number ≡ 0) (some : 0 < records_of h)
   pub documented : 16 < record_length h
   documented = share.1
 
-module _ (h : List ℕ) (k words : ℕ) {p : Plan} (e : p ≡ plan_of h) where
-  ends : {n : ℕ} {r : Part} → r ≡ refused_part n → refusal_of h k words ≡ n → (n ≡ 0 → ⊥) → r ≡ part_of h k words
+module _ (h : List ℕ) (k words : ℕ) {p : PlanAnswer} (e : p ≡ plan_of h) where
+  ends : {n : ℕ} → refusal_of h k words ≡ n → (n ≡ 0 → ⊥) → refused_part n ≡ part_of h k words
   unfolding part_of
-  ends c q f = c ∙ refuses (record { number = 0; start = record_start h k; length = record_length h }) refused_part q f
+  ends q f = refuses (record { number = 0; start = record_start h k; length = record_length h }) refused_part q f
 
-  pub header_refused : {r : Part} → (p.number ≡ 0 → ⊥) → r ≡ refused_part p.number → r ≡ part_of h k words
+  pub header_refused : (p.number ≡ 0 → ⊥) → refused_part p.number ≡ part_of h k words
   unfolding refusal_of
-  header_refused f c = ends c (header_decides h e (record_grounds h k words) f) f
+  header_refused f = ends (header_decides h e (record_grounds h k words) f) f
 
   module _ (z : p.number ≡ 0) where
     records_is : p.records ≡ records_of h
-    records_is = ap (λ (q : Plan). q.records) (plan_is h e z)
+    records_is = ap (λ (q : PlanAnswer). q.records) (plan_is h e z)
 
     pub words_is : p.words ≡ words_in h
-    words_is = ap (λ (q : Plan). q.words) (plan_is h e z)
+    words_is = ap (λ (q : PlanAnswer). q.words) (plan_is h e z)
 
     test_is : (eqb k 0 || ltb p.records k) ≡ no_record h k
     test_is = ap (λ (n : ℕ). eqb k 0 || ltb n k) records_is
 
-    pub record_refused : {r : Part} → (eqb k 0 || ltb p.records k) ≡ true → r ≡ refused_part 13 → r ≡ part_of h k words
+    pub record_refused : (eqb k 0 || ltb p.records k) ≡ true → refused_part 13 ≡ part_of h k words
     unfolding refusal_of
-    record_refused t c = ends c (others_decide h e (record_grounds h k words) z ∙ sym (yes _ test_is t refl)) (λ q. omega arith)
+    record_refused t = ends (others_decide h e (record_grounds h k words) z ∙ sym (yes _ test_is t refl)) (λ q. omega arith)
 
     module _ (t : (eqb k 0 || ltb p.records k) ≡ false) where
-      pub words_refused : {r : Part} → words < p.words → r ≡ refused_part 9 → r ≡ part_of h k words
+      pub words_refused : words < p.words → refused_part 9 ≡ part_of h k words
       unfolding refusal_of
-      words_refused l c =
-          ends c
+      words_refused l =
+          ends
           (others_decide h e (record_grounds h k words) z
           ∙ sym (no _ test_is t (yes _ refl (lt-ltb words (words_in h) (subst (λ (n : ℕ). words < n) words_is l)) refl)))
           (λ q. omega arith)
@@ -118,7 +116,7 @@ module _ (h : List ℕ) (k words : ℕ) {p : Plan} (e : p ≡ plan_of h) where
       pub start_inside : p.words ≤ words → (k - 1) * (p.words / p.records) ≤ words
       start_inside l =
           let some : 0 < records_of h = subst (λ (n : ℕ). 0 < n) records_is (omega (arith, bounds)) in
-          let whole = shares_evenly h (sym (ap (λ (q : Plan). q.number) e) ∙ z) some in
+          let whole = shares_evenly h (sym (ap (λ (q : PlanAnswer). q.number) e) ∙ z) some in
           let less : k - 1 ≤ records_of h = subst (λ (n : ℕ). k - 1 ≤ n) records_is (omega (arith, bounds)) in
           subst (λ (n : ℕ). (k - 1) * n ≤ words) (sym length_is) (omega (arith, mul-le-mul_right (record_length h) less, whole, words_is))
 
@@ -139,7 +137,7 @@ accepted h k words e =
 pub part_inside : (h : List ℕ) (k words : ℕ) → (part_of h k words).start + (part_of h k words).length ≤ words
 unfolding part_of
 part_inside h k words =
-    either (λ (part : Part). part.start + part.length ≤ words) (eqb (refusal_of h k words) 0)
+    either (λ (part : PartAnswer). part.start + part.length ≤ words) (eqb (refusal_of h k words) 0)
     (λ t. inside (eqb-true (refusal_of h k words) 0 t)) (λ t. omega arith)
   where
     inside : refusal_of h k words ≡ 0 → record_start h k + record_length h ≤ words

@@ -1,8 +1,10 @@
 -- Detector records: where record k lies in the decoded words.
 -- Assumes nothing.
-use Rattle.std.specs.Prelude.{ℕ, zero, suc, ◌-◌, ◌*◌, ◌/◌, Bool, ◌||◌, List, [], ◌∷◌, ◌++◌, eqb, ltb, length, take, drop}
+use Rattle.std.specs.Prelude.{ℕ, zero, suc, ◌-◌, ◌*◌, ◌/◌, Bool, ◌||◌, List, [], ◌∷◌, ◌++◌, eqb, ltb, length, take, drop, Result, Ok, Err}
 use Rattle.ground.specs.Choice.{pick}
 use Rattle.ground.specs.Grounds.{Ground, ◌when◌, first_of}
+use Rattle.ground.specs.declared.Refusal.{Refusal}
+use Rattle.ground.specs.Refusals.{number_of}
 use Rattle.header.specs.Says.{words_in, row_in}
 use Rattle.header.specs.Plans.{plan_grounds}
 use Rattle.records.specs.declared.Part.{Part}
@@ -33,16 +35,27 @@ grounds_of header k words = plan_grounds header ++ record_grounds header k words
 unfoldable pub refusal_of : (header : List ℕ) (k words : ℕ) → ℕ
 refusal_of header k words = first_of (grounds_of header k words)
 
-abbrev pub refused_part : ℕ → Part
+-- the answer as numbers: 0 and where the record lies, or a refusal's number and an empty part
+pub record PartAnswer : Type 0 where
+  pub number : ℕ
+  pub start : ℕ
+  pub length : ℕ
+
+abbrev pub refused_part : ℕ → PartAnswer
 refused_part n = record { number = n; start = 0; length = 0 }
 
 -- where the record lies; a refusal gives its number and an empty part
-unfoldable pub part_of : (header : List ℕ) (k words : ℕ) → Part
+unfoldable pub part_of : (header : List ℕ) (k words : ℕ) → PartAnswer
 part_of header k words =
     pick (eqb (refusal_of header k words) 0) (record { number = 0; start = record_start header k; length = record_length header }) (refused_part (refusal_of header k words))
 
+-- what is told of an answer
+abbrev pub told : Result Part Refusal → PartAnswer
+told (Ok part) = record { number = 0; start = part.start; length = part.length }
+told (Err r) = refused_part (number_of r)
+
 -- the part of the words that it names
-abbrev pub part_in : Part → List ℕ → List ℕ
+abbrev pub part_in : PartAnswer → List ℕ → List ℕ
 part_in part words = take part.length (drop part.start words)
 
 abbrev pub record_of : (header : List ℕ) (k : ℕ) (words : List ℕ) → List ℕ
