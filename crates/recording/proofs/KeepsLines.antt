@@ -14,8 +14,7 @@ use Rattle.ground.proofs.LawsChoice.{yes, no}
 use Rattle.bits.specs.Bits.{Below}
 use Rattle.copies.specs.Copies.{header_length, copies_length, too_short}
 use Rattle.copies.proofs.LawsAgreed.{copy_long}
-use Rattle.header.specs.Plans.{plan_of}
-use Rattle.header.specs.declared.Plan.{Plan}
+use Rattle.header.specs.Plans.{PlanAnswer, plan_of}
 use Rattle.header.specs.Promises.{asked_plan}
 use Rattle.header.proofs.KeepsHeader.{grants_asked}
 use Rattle.block.specs.Answers.{answer_of}
@@ -102,7 +101,7 @@ block_line before block room bytes m r =
     let plan : plan_of a.header ≡ asked_plan m.number m.version m.size m.words =
     ap plan_of (answers_truly.header block room bytes m r) ∙ grants_asked.given (take header_length m.copy) m.number m.version m.size m.words (header_long block m) m.asks in
     sym (yes _ refl (eq-eqb a.number 0 (accepts_exactly.accepts block room bytes m r)) refl)
-    ∙ ap₂ (λ (p : Plan) (w : ℕ). record { seq = seq_after before; answer = 0; block = p.block; version = p.version; words = w }) plan (answers_truly.count block room bytes m r)
+    ∙ ap₂ (λ (p : PlanAnswer) (w : ℕ). record { seq = seq_after before; answer = 0; block = p.block; version = p.version; words = w }) plan (answers_truly.count block room bytes m r)
 
 -- a refusal's other numbers are zero
 pub refused_line_is : (before : ℕ) (body : List ℕ) (room : ℕ) → ((answer_of body room).number ≡ 0 → ⊥)

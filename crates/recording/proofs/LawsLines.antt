@@ -1,18 +1,22 @@
--- The three ends of a line: another tag, a block refused, a block listed.
+-- The three ends of a line: another tag, a block refused, a block listed, which has a plan.
 -- Assumes nothing.
-use mathlib.Core.Path.{◌≡◌, refl, sym, ap, ap₂, ◌∙◌}
-use mathlib.Core.List.{List}
+use mathlib.Core.Path.{◌≡◌, refl, sym, ap, ◌∙◌}
+use mathlib.Core.List.{List, ◌++◌}
 use Prim.Native.Nat.{ℕ, ◌+◌, ◌<◌}
 use borrow.Author.Tests.{eq-eqb, ne_eqb, lt-ltb}
 use lib.Dec.{eqb}
 use lib.ListN.{length}
 use Rattle.ground.proofs.LawsChoice.{yes, no, either}
-use Rattle.header.specs.Plans.{plan_of}
-use Rattle.header.specs.declared.Plan.{Plan}
-use Rattle.block.specs.declared.Answer.{Answer}
-use Rattle.block.specs.Answers.{answer_of, room_after}
+use Rattle.ground.proofs.LawsGrounds.{none_first, first_none, none_split, accepts}
+use Rattle.copies.specs.Copies.{header_in, copies_grounds}
+use Rattle.header.specs.Plans.{PlanAnswer, header_grounds, plan_grounds, plan_of}
+use Rattle.header.proofs.KeepsHeader.{plan_number}
+use Rattle.block.specs.Grounds.{field_by, grounds_by, refusal_by, grounds_of, refusal_of}
+use Rattle.block.specs.Answers.{Answer, accepted_answer, refused_answer, answer_of, room_after}
+use Rattle.block.proofs.LawsReader.{refused_alike}
+use Rattle.block.proofs.KeepsReader.{number_is}
 use Rattle.recording.specs.declared.Line.{Line}
-use Rattle.recording.specs.Lines.{most_fields, seq_after, holds_block, refused_line, listed, line_of, room_listed}
+use Rattle.recording.specs.Lines.{most_fields, seq_after, holds_block, refused_line, listed, line_by, line_of, room_listed}
 
 -- a line has the number of its field, whatever it is answered
 pub line_seq : (before tag : ℕ) (body : List ℕ) (room : ℕ) → (line_of before tag body room).seq ≡ seq_after before
@@ -25,25 +29,42 @@ line_seq before tag body room =
 pub seq_next : (before : ℕ) → before < most_fields → seq_after before ≡ before + 1
 seq_next before h = sym (yes _ refl (lt-ltb before most_fields h) refl)
 
-module _ (before tag : ℕ) (body room : List ℕ) {seq : ℕ} (numbered : seq ≡ seq_after before) where
+-- a block that is read has a plan
+accepted_plan : (block : List ℕ) (room : ℕ) → (answer_of block room).number ≡ 0 → (plan_of (answer_of block room).header).number ≡ 0
+unfolding answer_of refusal_of refusal_by
+accepted_plan block room z =
+    let h = header_in block in
+    let none : refusal_of block room ≡ 0 = sym (number_is block room) ∙ z in
+    let all = first_none (grounds_of block h room) refl none in
+    let copies = none_first (copies_grounds block) (none_split (copies_grounds block) (header_grounds h ++ field_by h block room) all).0 in
+    let by : refusal_by h block room ≡ 0 = sym (refused_alike block room copies) ∙ none in
+    ap (λ (a : Answer). (plan_of a.header).number) (sym (accepts (accepted_answer block) refused_answer none))
+    ∙ plan_number h ∙ none_first (plan_grounds h) (none_split (plan_grounds h) (field_by h block room) (first_none (grounds_by h block room) refl by)).0
+
+module _ (seq tag : ℕ) (body room : List ℕ) where
   abbrev pub Ends : Line → List ℕ → Type 0
-  Ends line after = (line ≡ line_of before tag body (length room)) × (after ≡ room_listed tag body room)
+  Ends line after = (line ≡ line_by seq tag body (length room)) × (after ≡ room_listed tag body room)
 
-  pub other_tag : {line : Line} → (tag ≡ 1 → ⊥) → line ≡ refused_line seq 15 → Ends line room
-  unfolding line_of room_listed
-  other_tag f e = (no _ refl (ne_eqb tag 1 f) (e ∙ ap (λ (n : ℕ). refused_line n 15) numbered), no _ refl (ne_eqb tag 1 f) refl)
+  pub other_tag : (tag ≡ 1 → ⊥) → Ends (refused_line seq 15) room
+  unfolding room_listed
+  other_tag f = (no _ refl (ne_eqb tag 1 f) refl, no _ refl (ne_eqb tag 1 f) refl)
 
-  -- what is said of the answer is said of the line
-  block_line : {line : Line} {a : Answer} {after : List ℕ} → tag ≡ 1 → a ≡ answer_of body (length room) → after ≡ room_after body room → line ≡ listed seq a → Ends line after
-  unfolding line_of room_listed
-  block_line t e r l = (yes _ refl (eq-eqb tag 1 t) (l ∙ ap₂ listed numbered e), yes _ refl (eq-eqb tag 1 t) r)
+  module _ (t : tag ≡ 1) {a : Answer} {after : List ℕ} (e : a ≡ answer_of body (length room)) (r : after ≡ room_after body room) where
+    -- what is said of the answer is said of the line
+    block_line : {line : Line} → line ≡ listed seq a → Ends line after
+    unfolding room_listed
+    block_line l = (yes _ refl (eq-eqb tag 1 t) (l ∙ ap (listed seq) e), yes _ refl (eq-eqb tag 1 t) r)
 
-  pub block_refused : {line : Line} {a : Answer} {after : List ℕ} → tag ≡ 1 → a ≡ answer_of body (length room) → after ≡ room_after body room
-      → (a.number ≡ 0 → ⊥) → line ≡ refused_line seq a.number → Ends line after
-  block_refused {line} {a} t e r f l = block_line t e r (no _ refl (ne_eqb a.number 0 f) l)
+    pub block_refused : (a.number ≡ 0 → ⊥) → Ends (refused_line seq a.number) after
+    block_refused f = block_line (no _ refl (ne_eqb a.number 0 f) refl)
 
-  pub block_listed : {a : Answer} {p : Plan} {after : List ℕ} → tag ≡ 1 → a ≡ answer_of body (length room) → after ≡ room_after body room
-      → a.number ≡ 0 → p ≡ plan_of a.header → Ends (record { seq = seq; answer = 0; block = p.block; version = p.version; words = a.words }) after
-  block_listed {a} {p} t e r z q =
-      block_line t e r
-      (yes _ refl (eq-eqb a.number 0 z) (ap (λ (x : Plan). record { seq = seq; answer = 0; block = x.block; version = x.version; words = a.words }) q))
+    module _ (z : a.number ≡ 0) {p : PlanAnswer} (q : p ≡ plan_of a.header) where
+      pub planned : p.number ≡ 0
+      planned =
+          ap (λ (x : PlanAnswer). x.number) q ∙ ap (λ (x : Answer). (plan_of x.header).number) e
+          ∙ accepted_plan body (length room) (sym (ap (λ (x : Answer). x.number) e) ∙ z)
+
+      pub block_listed : Ends (record { seq = seq; answer = 0; block = p.block; version = p.version; words = a.words }) after
+      block_listed =
+          block_line
+          (yes _ refl (eq-eqb a.number 0 z) (ap (λ (x : PlanAnswer). record { seq = seq; answer = 0; block = x.block; version = x.version; words = a.words }) q))

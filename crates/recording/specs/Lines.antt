@@ -1,10 +1,11 @@
 -- A line of the listing: the number of a field of a recording, and what it is answered.
 -- Assumes nothing.
-use Rattle.std.specs.Prelude.{ℕ, ◌+◌, Bool, List, [], ◌∷◌, eqb, ltb}
+use Rattle.std.specs.Prelude.{ℕ, ◌+◌, Bool, List, [], ◌∷◌, eqb, ltb, Result, Ok, Err}
 use Rattle.ground.specs.Choice.{pick}
+use Rattle.ground.specs.declared.Refusal.{Refusal}
+use Rattle.ground.specs.Refusals.{number_of}
 use Rattle.header.specs.Plans.{plan_of}
-use Rattle.block.specs.declared.Answer.{Answer}
-use Rattle.block.specs.Answers.{answer_of, room_after}
+use Rattle.block.specs.Answers.{Answer, answer_of, room_after}
 use Rattle.recording.specs.Fields.{Field}
 use Rattle.recording.specs.declared.Line.{Line}
 
@@ -30,9 +31,17 @@ listed seq a =
     (record { seq = seq; answer = 0; block = (plan_of a.header).block; version = (plan_of a.header).version; words = a.words })
     (refused_line seq a.number)
 
+-- the line of what is answered
+abbrev pub told_line : ℕ → Result Line Refusal → Line
+told_line seq (Ok line) = line
+told_line seq (Err r) = refused_line seq (number_of r)
+
 -- a tag other than 1 is 15
+abbrev pub line_by : (seq tag : ℕ) (body : List ℕ) → ℕ → Line
+line_by seq tag body room = pick (holds_block tag) (listed seq (answer_of body room)) (refused_line seq 15)
+
 unfoldable pub line_of : (before tag : ℕ) (body : List ℕ) → ℕ → Line
-line_of before tag body room = pick (holds_block tag) (listed (seq_after before) (answer_of body room)) (refused_line (seq_after before) 15)
+line_of before tag body room = line_by (seq_after before) tag body room
 
 -- and leaves the room as it was
 unfoldable pub room_listed : (tag : ℕ) (body room : List ℕ) → List ℕ

@@ -5,13 +5,15 @@
 ghost use Rattle.std.specs.Prelude.{◌≡◌, length};
 ghost use Rattle.recording.specs.Fields.{front_of};
 ghost use Rattle.recording.specs.Found.{length_at, found_at};
-ghost use Rattle.recording.specs.Lines.{seq_after, refused_line, line_of, room_listed};
+ghost use Rattle.recording.specs.Lines.{seq_after, told_line, line_by, line_of, room_listed};
+
+use ground::Refusal;
 
 // A tag and a length of two bytes stand in front of a body.
 pub const FRONT: usize = 3;
 
 // What stands in a recording from a byte on.
-#[derive(Clone, Copy)]
+#[derive(Clone, Copy, Debug, PartialEq, Eq)]
 pub enum Found {
     // A whole field: its tag, where its body starts, and how long that is.
     Whole(u8, usize, usize),
@@ -22,17 +24,19 @@ pub enum Found {
 }
 
 // The front of a field: its tag and the length of its body, high byte first.
-pub fn front_of(tag: u8, length: u16) -> [u8; 3]
+pub fn front_of(tag: u8, length: u16) -> [u8; FRONT]
     ensures { result ≡ front_of tag length }
 {
-    [tag, (length / 256) as u8, (length % 256) as u8]
+    let [high, low] = length.to_be_bytes();
+    [tag, high, low]
 }
 
 // The length of the body behind such a front.
-pub fn body_length(front: [u8; 3]) -> u16
+pub fn body_length(front: [u8; FRONT]) -> u16
     ensures { result ≡ length_at front 0 }
 {
-    bits::two_bytes(front[1], front[2])
+    let [_, high, low] = front;
+    u16::from_be_bytes([high, low])
 }
 
 // What stands at byte `at`.
@@ -57,7 +61,7 @@ pub fn next_field(bytes: &[u8], at: usize) -> Found
 pub const BLOCK: u8 = 1;
 
 // The number of a field, from 1, and what it is answered; of a refusal the other numbers are zero, and the listing shows dashes for them.
-#[derive(Clone, Copy)]
+#[derive(Clone, Copy, Debug, PartialEq, Eq)]
 pub struct Line {
     pub seq: u64,
     pub answer: u8,
@@ -70,44 +74,42 @@ pub struct Line {
 fn seq_after(before: u64) -> u64
     ensures { result ≡ seq_after before }
 {
-    if before < u64::MAX {
-        return before + 1;
-    }
-    before
+    before.saturating_add(1)
 }
 
-fn refused(seq: u64, number: u8) -> Line
-    ensures { result ≡ refused_line seq number }
+// The line of a field that is read like any block where its tag says that it holds one.
+fn block_line(seq: u64, tag: u8, body: &[u8], room: &mut [u16]) -> Result<Line, Refusal>
+    ensures value { told_line seq result ≡ line_by seq tag body.now (length room.old) }
+    ensures room_after { room.new ≡ room_listed tag body.now room.old }
 {
-    Line {
-        seq: seq,
-        answer: number,
-        block: 0,
-        version: 0,
-        words: 0,
+    if tag != BLOCK {
+        return Err(Refusal::OtherField);
     }
+    let contents = block::read(body, room)?;
+    let plan = header::plan_of(&contents.common.header)?;
+    Ok(Line {
+        seq,
+        answer: ground::ACCEPTED,
+        block: plan.block,
+        version: plan.version,
+        words: contents.words,
+    })
 }
 
-// The line of the field behind `before` complete ones, which is read like any block where its tag says that it holds one.
+// The line of the field behind `before` complete ones.
 pub fn line_of(before: u64, tag: u8, body: &[u8], room: &mut [u16]) -> Line
     ensures value { result ≡ line_of before tag body.now (length room.old) }
     ensures room_after { room.new ≡ room_listed tag body.now room.old }
 {
     let seq = seq_after(before);
-    if tag != BLOCK {
-        return refused(seq, ground::OTHER_FIELD);
-    }
-    let answer = block::read(body, room);
-    if answer.number != ground::ACCEPTED {
-        return refused(seq, answer.number);
-    }
-    let header = answer.header;
-    let plan = header::plan_of(&header);
-    Line {
-        seq: seq,
-        answer: ground::ACCEPTED,
-        block: plan.block,
-        version: plan.version,
-        words: answer.words,
+    match block_line(seq, tag, body, room) {
+        Ok(line) => line,
+        Err(refusal) => Line {
+            seq,
+            answer: refusal.number(),
+            block: 0,
+            version: 0,
+            words: 0,
+        },
     }
 }

@@ -1,19 +1,25 @@
--- `recording::line_of` meets its contract: a return for each end of a line.
+-- `recording::line_of` meets its contract: a return for a line, and one for a refusal.
 -- Assumes nothing.
-use Rattle.recording.proofs.LawsLines.{other_tag, block_refused, block_listed}
+use mathlib.Core.Path.{ap, ◌∙◌}
+use Prim.Native.Nat.{ℕ}
+use lib.ListN.{length}
+use Rattle.recording.specs.Lines.{refused_line, line_by, line_of}
 use Rattle.recording.proofs.line_of.Goals as goal
 
-pub returns-then-tag-ne-BLOCK : goal.returns-then-tag-ne-BLOCK
-returns-then-tag-ne-BLOCK c =
-    let a = c.args in
-    let both = other_tag a.before a.tag a.body.now a.room.now c.seq_after-seq.ensures c.if-tag-ne-BLOCK.true c.refused.ensures in record { value = both.0; room_after = both.1 }
+pub returns-in-Ok : goal.returns-in-Ok
+unfolding line_of
+returns-in-Ok c =
+    let a = c.args in record {
+      value = c.in-Ok.ensures.value ∙ ap (λ (n : ℕ). line_by n a.tag a.body.now (length a.room.now)) c.seq_after-seq.ensures;
+      room_after = c.in-Ok.ensures.room_after;
+    }
 
-pub returns-then-answer-ne-ACCEPTED : goal.returns-then-answer-ne-ACCEPTED
-returns-then-answer-ne-ACCEPTED c =
-    let a = c.args in
-    let both = block_refused a.before a.tag a.body.now a.room.now c.seq_after-seq.ensures c.if-tag-ne-BLOCK.false c.read-answer.ensures.value c.read-answer.ensures.room_after c.if-answer-ne-ACCEPTED.true c.refused-then-answer-ne-ACCEPTED.ensures in record { value = both.0; room_after = both.1 }
-
-pub returns : goal.returns
-returns c =
-    let a = c.args in
-    let both = block_listed a.before a.tag a.body.now a.room.now c.seq_after-seq.ensures c.if-tag-ne-BLOCK.false c.read-answer.ensures.value c.read-answer.ensures.room_after c.if-answer-ne-ACCEPTED.false c.plan_of-plan.ensures in record { value = both.0; room_after = both.1 }
+pub returns-in-Err : goal.returns-in-Err
+unfolding line_of
+returns-in-Err c =
+    let a = c.args in record {
+      value =
+          ap (refused_line c.seq_after-seq.result) c.number.ensures ∙ c.in-Err.ensures.value
+          ∙ ap (λ (n : ℕ). line_by n a.tag a.body.now (length a.room.now)) c.seq_after-seq.ensures;
+      room_after = c.in-Err.ensures.room_after;
+    }
