@@ -6,6 +6,8 @@ use mathlib.Core.Path.{◌≡◌, refl, sym, ap, ap₂, ◌∙◌}
 use mathlib.Core.Bool.{Bool, true, false, not, ◌&&◌, ◌||◌}
 use mathlib.Core.List.{List, [], ◌∷◌, ◌++◌, append_assoc}
 use native.Mathlib.Omega.{arith}
+use Rattle.std.specs.Prelude.{Option, Some, None}
+use Rattle.std.proofs.lemmas.Option.{none-some, same_Some}
 use lib.Dec.{lit<, eqb, leb, ltb}
 use lib.ListN.{length, take, drop, length-append, length-drop}
 use lib.Seq.{take-take, take_at, drop_at, drop-drop, length-take-le}
@@ -24,14 +26,12 @@ use Rattle.copies.specs.Agreed.{ThreeEqual}
 use Rattle.copies.proofs.LawsSame.{same_refl}
 use Rattle.copies.proofs.LawsAgreed.{each, copy_long}
 use Rattle.header.specs.Says.{block_in, size_in, words_in, bytes_in}
-use Rattle.header.specs.Plans.{plan_grounds, plan_of}
-use Rattle.header.specs.declared.Plan.{Plan}
+use Rattle.header.specs.Plans.{PlanAnswer, plan_grounds, plan_of}
 use Rattle.header.proofs.KeepsHeader.{plan_number, granted_held, grants_asked}
 use Rattle.header.proofs.LawsThen.{plan_is}
-use Rattle.block.specs.declared.Judged.{Judged}
 use Rattle.block.specs.Layout.{block_length, information_field}
 use Rattle.block.specs.Grounds.{off_boundary, small_room, fill_not_zero, field_by, refusal_by, refusal_of}
-use Rattle.block.specs.Answers.{judged_by, words_laid, room_by, room_after}
+use Rattle.block.specs.Answers.{Judged, judged_by, words_laid, room_by, room_after}
 use Rattle.block.proofs.LawsReader.{judged_number, accepted_by, refused_alike}
 use Rattle.block.proofs.KeepsJudged.{judges_in_order}
 use Rattle.made.specs.Made.{header_by, length_by, thrice, made, makes, begins, begun_by, bytes_by, scratch_by}
@@ -221,71 +221,70 @@ module _ (k : ℕ) (rest : List ℕ) where
 
   -- ---- one law for each return of `begun_by`
 
-  not_begun : begins k rest ≡ false → 0 ≡ begun_by k rest
+  not_begun : begins k rest ≡ false → None ≡ begun_by k rest
   unfolding begun_by
   not_begun e = no _ refl e refl
 
-  pub short_none : length rest < copies_length → 0 ≡ begun_by k rest
+  pub short_none : length rest < copies_length → None ≡ begun_by k rest
   short_none s =
       not_begun (not_second (eqb (plan_of h).number 0) (ap (λ (t : Bool). t && passes c) (lt-leb n (length rest) (omega (arith, length_least)))))
 
-  module _ {p : Plan} (e : p ≡ plan_of h) where
+  module _ {p : PlanAnswer} (e : p ≡ plan_of h) where
     number_is : p.number ≡ (plan_of h).number
-    number_is = ap (λ (q : Plan). q.number) e
+    number_is = ap (λ (q : PlanAnswer). q.number) e
 
-    pub no_plan : (p.number ≡ 0 → ⊥) → 0 ≡ begun_by k rest
+    pub no_plan : (p.number ≡ 0 → ⊥) → None ≡ begun_by k rest
     no_plan f = not_begun (ap (λ (t : Bool). t && (leb n (length rest) && passes c)) (ne_eqb (plan_of h).number 0 (λ z. f (number_is ∙ z))))
 
     module _ (z : p.number ≡ 0) where
       length_is : block_length p.bytes ≡ n
-      length_is = ap (λ (q : Plan). block_length q.bytes) (plan_is h e z)
+      length_is = ap (λ (q : PlanAnswer). block_length q.bytes) (plan_is h e z)
 
-      pub cut_none : length rest < block_length p.bytes → 0 ≡ begun_by k rest
+      pub cut_none : length rest < block_length p.bytes → None ≡ begun_by k rest
       cut_none s = not_begun (not_second (eqb (plan_of h).number 0) (ap (λ (t : Bool). t && passes c) (lt-leb n (length rest) (omega (arith, length_is)))))
 
       module _ {t : Bool} (q : t ≡ passes (copy_at k rest)) where
-        pub unpassed : t ≡ false → 0 ≡ begun_by k rest
+        pub unpassed : t ≡ false → None ≡ begun_by k rest
         unpassed f = not_begun (not_second (eqb (plan_of h).number 0) (not_second (leb n (length rest)) (sym q ∙ f)))
 
-        pub begun : block_length p.bytes ≤ length rest → t ≡ true → block_length p.bytes ≡ begun_by k rest
+        pub begun : block_length p.bytes ≤ length rest → t ≡ true → Some (block_length p.bytes) ≡ begun_by k rest
         unfolding begun_by
         begun l f =
-            yes _ refl (both (eq-eqb (plan_of h).number 0 (sym number_is ∙ z)) (both (le-leb n (length rest) (omega (arith, length_is))) (sym q ∙ f))) length_is
+            yes _ refl (both (eq-eqb (plan_of h).number 0 (sym number_is ∙ z)) (both (le-leb n (length rest) (omega (arith, length_is))) (sym q ∙ f))) (ap Some length_is)
 
   -- ---- one law for each return of `bytes_by`
 
   module _ (scratch : List ℕ) where
-    abbrev Ends : ℕ → List ℕ → Type 0
+    abbrev Ends : Option ℕ → List ℕ → Type 0
     Ends r after = (r ≡ bytes_by k rest (length scratch)) × (after ≡ scratch_by k rest scratch)
 
-    none_by : (leb most_words (length scratch) && makes k rest) ≡ false → Ends 0 scratch
+    none_by : (leb most_words (length scratch) && makes k rest) ≡ false → Ends None scratch
     unfolding bytes_by scratch_by
     none_by e = (no _ refl e refl, no _ refl e refl)
 
-    pub few_words : length scratch < most_words → Ends 0 scratch
+    pub few_words : length scratch < most_words → Ends None scratch
     few_words s = none_by (ap (λ (t : Bool). t && makes k rest) (lt-leb most_words (length scratch) s))
 
-    pub makes_none : (Makes → ⊥) → Ends 0 scratch
+    pub makes_none : (Makes → ⊥) → Ends None scratch
     makes_none f = none_by (not_second (leb most_words (length scratch)) (not_made f))
 
-    module _ (lent : most_words ≤ length scratch) {b : ℕ} (e : b ≡ begun_by k rest) where
-      pub none_begun : b ≡ 0 → Ends 0 scratch
+    module _ (lent : most_words ≤ length scratch) where
+      pub none_begun : None ≡ begun_by k rest → Ends None scratch
       unfolding begun_by
-      none_begun z =
-          makes_none (λ m. let f : n ≡ 0 = yes {x = n} 0 refl (makes_begins m) refl ∙ sym e ∙ z in omega (arith, length_least))
+      none_begun e = makes_none (λ m. none-some n (e ∙ sym (yes {x = Some n} None refl (makes_begins m) refl)))
 
-      module _ (some : b ≡ 0 → ⊥) where
+      module _ {b : ℕ} (e : Some b ≡ begun_by k rest) where
         begins_so : begins k rest ≡ true
         unfolding begun_by
         begins_so = go (begins k rest) refl
           where
             go : (t : Bool) → begins k rest ≡ t → t ≡ true
             go true t = refl
-            go false t = absurd (some (e ∙ sym (no {x = 0} n refl t refl)))
+            go false t = absurd (none-some b (no {x = None} (Some n) refl t refl ∙ sym e))
 
         pub begun_is : b ≡ length_by k rest
         unfolding begun_by
-        begun_is = e ∙ sym (yes {x = n} 0 refl begins_so refl)
+        begun_is = same_Some b n (e ∙ sym (yes {x = Some n} None refl begins_so refl))
 
         plan_0 : (plan_of h).number ≡ 0
         plan_0 = eqb-true (plan_of h).number 0 (split (eqb (plan_of h).number 0) (leb n (length rest) && passes c) begins_so).0
@@ -311,53 +310,51 @@ module _ (k : ℕ) (rest : List ℕ) where
           made_number =
               made_refusal one begun_inside rest_so.1 most_words ∙ sym (number_by ∙ refusal_room h (take n rest) (length scratch) plan_0 lent)
 
-          pub block_refused : (judged.number ≡ 0 → ⊥) → Ends 0 after
+          pub block_refused : (judged.number ≡ 0 → ⊥) → Ends None after
           block_refused f =
               let x = makes_none (λ m. f (sym made_number ∙ m.accepted)) in
               (x.0, left_is ∙ judges_in_order.unchanged h (take n rest) scratch (λ z. f (ap (λ (r : Judged). r.number) judged_is ∙ z)) ∙ x.1)
 
-          pub block_made : judged.number ≡ 0 → Ends b after
+          pub block_made : judged.number ≡ 0 → Ends (Some b) after
           unfolding bytes_by scratch_by
           block_made z =
               let m : makes k rest ≡ true = so_made (record { one = one; passing = rest_so.1; inside = begun_inside; accepted = made_number ∙ z }) in
               let t : (leb most_words (length scratch) && makes k rest) ≡ true = both (le-leb most_words (length scratch) lent) m in
               let none : refusal_by h (take n rest) (length scratch) ≡ 0 = sym number_by ∙ z in
               let read : refusal_of (made k rest) (length scratch) ≡ 0 = made_refusal one begun_inside rest_so.1 (length scratch) ∙ none in
-              (yes _ refl t begun_is, yes _ refl t (left_is ∙ sym (accepted_by h (take n rest) scratch none).1 ∙ made_room one begun_inside rest_so.1 scratch read))
+              (yes _ refl t (ap Some begun_is), yes _ refl t (left_is ∙ sym (accepted_by h (take n rest) scratch none).1 ∙ made_room one begun_inside rest_so.1 scratch read))
 
 -- ---- what `bytes_by` answered says what the copy makes
 
-module _ (k : ℕ) (rest scratch : List ℕ) (lent : most_words ≤ length scratch) {b : ℕ} {after : List ℕ}
-    (e : b ≡ bytes_by k rest (length scratch)) (a : after ≡ scratch_by k rest scratch) where
+module _ (k : ℕ) (rest scratch : List ℕ) (lent : most_words ≤ length scratch) {after : List ℕ} (a : after ≡ scratch_by k rest scratch) where
   test_is : (leb most_words (length scratch) && makes k rest) ≡ makes k rest
   test_is = ap (λ (t : Bool). t && makes k rest) (le-leb most_words (length scratch) lent)
 
-  some_bytes : makes k rest ≡ true → b ≡ length_by k rest
-  unfolding bytes_by
-  some_bytes t = e ∙ sym (yes {x = length_by k rest} 0 refl (test_is ∙ t) refl)
+  module _ (e : None ≡ bytes_by k rest (length scratch)) where
+    pub none_makes : makes k rest ≡ false
+    unfolding bytes_by
+    none_makes = go (makes k rest) refl
+      where
+        go : (t : Bool) → makes k rest ≡ t → t ≡ false
+        go true t = absurd (none-some (length_by k rest) (e ∙ sym (yes {x = Some (length_by k rest)} None refl (test_is ∙ t) refl)))
+        go false t = refl
 
-  pub zero_none : b ≡ 0 → makes k rest ≡ false
-  zero_none z = go (makes k rest) refl
-    where
-      go : (t : Bool) → makes k rest ≡ t → t ≡ false
-      go true t = absurd (omega (arith, some_bytes t, length_least k rest))
-      go false t = refl
+    pub none_left : after ≡ scratch
+    unfolding scratch_by
+    none_left = a ∙ sym (no {x = scratch} _ refl (test_is ∙ none_makes) refl)
 
-  pub zero_left : b ≡ 0 → after ≡ scratch
-  unfolding scratch_by
-  zero_left z = a ∙ sym (no {x = scratch} _ refl (test_is ∙ zero_none z) refl)
-
-  module _ (some : b ≡ 0 → ⊥) where
+  module _ {b : ℕ} (e : Some b ≡ bytes_by k rest (length scratch)) where
     pub some_makes : makes k rest ≡ true
     unfolding bytes_by
     some_makes = go (makes k rest) refl
       where
         go : (t : Bool) → makes k rest ≡ t → t ≡ true
         go true t = refl
-        go false t = absurd (some (e ∙ sym (no {x = 0} (length_by k rest) refl (test_is ∙ t) refl)))
+        go false t = absurd (none-some b (no {x = None} (Some (length_by k rest)) refl (test_is ∙ t) refl ∙ sym e))
 
     pub some_long : b ≡ length_by k rest
-    some_long = some_bytes some_makes
+    unfolding bytes_by
+    some_long = same_Some b (length_by k rest) (e ∙ sym (yes {x = Some (length_by k rest)} None refl (test_is ∙ some_makes) refl))
 
     pub some_left : after ≡ room_after (made k rest) scratch
     unfolding scratch_by

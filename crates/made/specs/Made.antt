@@ -1,6 +1,6 @@
 -- The block that a header copy makes of the bytes from a start on, and whether it is acceptable.
 -- Assumes nothing.
-use Rattle.std.specs.Prelude.{ℕ, Bool, ◌&&◌, List, ◌++◌, eqb, leb, ltb, length, take, drop}
+use Rattle.std.specs.Prelude.{ℕ, Bool, ◌&&◌, List, ◌++◌, eqb, leb, ltb, length, take, drop, Option, Some, None}
 use Rattle.ground.specs.Choice.{pick}
 use Rattle.check_rule.specs.Check.{passes}
 use Rattle.row.specs.Promises.{most_words}
@@ -34,12 +34,12 @@ makes k rest = ltb k 3 && (passes (copy_at k rest) && (leb (length_by k rest) (l
 abbrev pub begins : ℕ → List ℕ → Bool
 begins k rest = eqb (plan_of (header_by k rest)).number 0 && (leb (length_by k rest) (length rest) && passes (copy_at k rest))
 
-unfoldable pub begun_by : ℕ → List ℕ → ℕ
-begun_by k rest = pick (begins k rest) (length_by k rest) 0
+unfoldable pub begun_by : ℕ → List ℕ → Option ℕ
+begun_by k rest = pick (begins k rest) (Some (length_by k rest)) None
 
 -- the bytes of an acceptable block, with so many words lent; and these afterwards, as reading that block leaves them
-unfoldable pub bytes_by : ℕ → List ℕ → ℕ → ℕ
-bytes_by k rest lent = pick (leb most_words lent && makes k rest) (length_by k rest) 0
+unfoldable pub bytes_by : ℕ → List ℕ → ℕ → Option ℕ
+bytes_by k rest lent = pick (leb most_words lent && makes k rest) (Some (length_by k rest)) None
 
 unfoldable pub scratch_by : ℕ → List ℕ → List ℕ → List ℕ
 scratch_by k rest scratch = pick (leb most_words (length scratch) && makes k rest) (room_after (made k rest) scratch) scratch
