@@ -11,10 +11,8 @@ use borrow.Author.Tests.{eq-eqb, ne_eqb}
 use Rattle.ground.specs.Choice.{pick}
 use Rattle.tag.specs.Digits.{digits_of, paired, decimal, value_of, spelt}
 use Rattle.calendar.specs.Leaps.{good_list}
-use Rattle.tag.specs.Tags.{tag_digits, tag_of, bytes_of, in_bounds, good_tag, read_by, read_tag, zero_tag}
+use Rattle.tag.specs.Tags.{tag_digits, tag_of, bytes_of, in_bounds, good_tag, TagRead, TagBytes, read_by, read_tag, zero_tag}
 use Rattle.tag.specs.declared.Tag.{Tag}
-use Rattle.tag.specs.declared.TagRead.{TagRead}
-use Rattle.tag.specs.declared.TagBytes.{TagBytes}
 use Rattle.ground.proofs.LawsTests.{second, and_true, and_assoc}
 
 abbrev pub tag : ℕ → ℕ → ℕ → ℕ → ℕ → ℕ → Bool → Tag
@@ -35,9 +33,8 @@ spread_all : (s : List ℕ) → spread (length s) (λ i. get_or s i 0) ≡ s
 spread_all [] = refl
 spread_all (x ∷ s) = ap (λ (l : List ℕ). x ∷ l) (spread_all s)
 
-pub eight : (leaps s : List ℕ) {r : TagRead} → length s ≡ 8
-    → r ≡ read_by leaps (get_or s 0 0 ∷ get_or s 1 0 ∷ get_or s 2 0 ∷ get_or s 3 0 ∷ get_or s 4 0 ∷ get_or s 5 0 ∷ get_or s 6 0 ∷ get_or s 7 0 ∷ []) → r ≡ read_by leaps s
-eight leaps s e h = h ∙ ap (read_by leaps) (ap (λ (n : ℕ). spread n (λ i. get_or s i 0)) (sym e) ∙ spread_all s)
+eight : (s : List ℕ) → length s ≡ 8 → spread 8 (λ i. get_or s i 0) ≡ s
+eight s e = ap (λ (n : ℕ). spread n (λ i. get_or s i 0)) (sym e) ∙ spread_all s
 
 -- The two digits of a byte as a number.
 abbrev two : ℕ → ℕ
@@ -60,12 +57,21 @@ module _ (a b c d e f g h : ℕ) where
   unfolding value_of
   across x y = omega arith
 
-  pub says : {year third day hour minute second ms : ℕ} → year ≡ two a * 100 + two b → third ≡ c % 128 → day ≡ two third * 10 + d / 16 → hour ≡ d % 16 * 10 + e / 16
+  says : {year third day hour minute second ms : ℕ} → year ≡ two a * 100 + two b → third ≡ c % 128 → day ≡ two third * 10 + d / 16 → hour ≡ d % 16 * 10 + e / 16
       → minute ≡ e % 16 * 10 + f / 16 → second ≡ f % 16 * 10 + g / 16 → ms ≡ g % 16 * 100 + two h
       → tag year day hour minute second ms (leb 128 c) ≡ tag_of (a ∷ b ∷ c ∷ d ∷ e ∷ f ∷ g ∷ h ∷ [])
   unfolding tag_of digits_of
   says p q r s t u v = λ i.
       tag ((p ∙ at_year) i) ((r ∙ ap (λ (n : ℕ). two n * 10 + d / 16) q ∙ at_day) i) ((s ∙ across d e) i) ((t ∙ across e f) i) ((u ∙ across f g) i) ((v ∙ at_ms) i) (leb 128 c)
+
+pub says_all : (s : List ℕ) → length s ≡ 8 → {year third day hour minute second ms : ℕ}
+    → year ≡ two (get_or s 0 0) * 100 + two (get_or s 1 0) → third ≡ get_or s 2 0 % 128 → day ≡ two third * 10 + get_or s 3 0 / 16
+    → hour ≡ get_or s 3 0 % 16 * 10 + get_or s 4 0 / 16 → minute ≡ get_or s 4 0 % 16 * 10 + get_or s 5 0 / 16
+    → second ≡ get_or s 5 0 % 16 * 10 + get_or s 6 0 / 16 → ms ≡ get_or s 6 0 % 16 * 100 + two (get_or s 7 0)
+    → tag year day hour minute second ms (leb 128 (get_or s 2 0)) ≡ tag_of s
+says_all s e p q r t u v w =
+    says (get_or s 0 0) (get_or s 1 0) (get_or s 2 0) (get_or s 3 0) (get_or s 4 0) (get_or s 5 0) (get_or s 6 0) (get_or s 7 0) p q r t u v w
+    ∙ ap tag_of (eight s e)
 
 -- Digit by digit, a test of bytes is one of digits.
 abbrev pub bcd : ℕ → Bool
@@ -79,9 +85,18 @@ last : (b : ℕ) → bcd b ≡ decimal (digits_of (b ∷ []))
 unfolding decimal digits_of
 last b = ap (λ (z : Bool). leb (b / 16) 9 && z) (and_true (leb (b % 16) 9))
 
-pub all_bcd : (a b c d e f g h : ℕ)
+all_bcd : (a b c d e f g h : ℕ)
     → bcd a && (bcd b && (bcd (c % 128) && (bcd d && (bcd e && (bcd f && (bcd g && bcd h)))))) ≡ decimal (tag_digits (a ∷ b ∷ c ∷ d ∷ e ∷ f ∷ g ∷ h ∷ []))
 all_bcd a b c d e f g h = next a _ (next b _ (next (c % 128) _ (next d _ (next e _ (next f _ (next g _ (last h)))))))
+
+abbrev tested : List ℕ → ℕ → Bool
+tested s i = bcd (get_or s i 0)
+
+pub bcd_all : (s : List ℕ) → length s ≡ 8
+    → tested s 0 && (tested s 1 && (bcd (get_or s 2 0 % 128) && (tested s 3 && (tested s 4 && (tested s 5 && (tested s 6 && tested s 7)))))) ≡ decimal (tag_digits s)
+bcd_all s e =
+    all_bcd (get_or s 0 0) (get_or s 1 0) (get_or s 2 0) (get_or s 3 0) (get_or s 4 0) (get_or s 5 0) (get_or s 6 0) (get_or s 7 0)
+    ∙ ap (λ (l : List ℕ). decimal (tag_digits l)) (eight s e)
 
 -- The eight bytes of a tag, as the code makes them.
 abbrev pack : ℕ → ℕ

@@ -1,14 +1,14 @@
 -- A CDA time tag: where its numbers and its mark stand in eight bytes, the bounds of the numbers, and what reading and
 -- writing one answer. A list of leap days is lent with it.
 -- Assumes nothing.
-use Rattle.std.specs.Prelude.{ℕ, ◌+◌, ◌%◌, Bool, false, not, ◌&&◌, ◌||◌, List, ◌++◌, eqb, leb, length, get_or, set, take, drop, replicate}
+use Rattle.std.specs.Prelude.{ℕ, ◌+◌, ◌%◌, Bool, false, not, ◌&&◌, ◌||◌, List, ◌++◌, eqb, leb, length, get_or, set, take, drop, replicate, Result, Ok, Err}
 use Rattle.ground.specs.Choice.{pick}
+use Rattle.ground.specs.declared.Refusal.{Refusal}
+use Rattle.ground.specs.Refusals.{number_of}
 use Rattle.calendar.specs.Years.{last_year, days_in}
 use Rattle.calendar.specs.Leaps.{day_of, good_list, listed}
 use Rattle.tag.specs.Digits.{digits_of, paired, decimal, value_of, spelt}
 use Rattle.tag.specs.declared.Tag.{Tag}
-use Rattle.tag.specs.declared.TagRead.{TagRead}
-use Rattle.tag.specs.declared.TagBytes.{TagBytes}
 
 -- Bytes of a tag, and the first bit of one.
 abbrev bytes_long : ℕ
@@ -83,6 +83,16 @@ good_tag leaps s = eqb (length s) bytes_long && (decimal (tag_digits s) && in_bo
 abbrev pub zero_tag : Tag
 zero_tag = record { year = 0; day = 0; hour = 0; minute = 0; second = 0; ms = 0; flywheel = false }
 
+-- What reading answers, as numbers: 0 and the tag, or 19 or 12 and the zero tag.
+pub record TagRead : Type 0 where
+  pub number : ℕ
+  pub tag : Tag
+
+-- What writing answers: 0 and the bytes, or 19 or 12 and zeros.
+pub record TagBytes : Type 0 where
+  pub number : ℕ
+  pub bytes : List ℕ
+
 -- Reading by a list as it is: 0 and the tag; for a bad one 12 and zeros.
 unfoldable pub read_by : List ℕ → List ℕ → TagRead
 read_by leaps s = pick (good_tag leaps s) (record { number = 0; tag = tag_of s }) (record { number = 12; tag = zero_tag })
@@ -97,3 +107,12 @@ write_tag leaps t =
     pick (not (good_list leaps)) (record { number = 19; bytes = replicate bytes_long 0 })
     (pick (not (in_bounds leaps t)) (record { number = 12; bytes = replicate bytes_long 0 })
     (record { number = 0; bytes = bytes_of t }))
+
+-- What is told of either answer.
+abbrev pub told_tag : Result Tag Refusal → TagRead
+told_tag (Ok t) = record { number = 0; tag = t }
+told_tag (Err r) = record { number = number_of r; tag = zero_tag }
+
+abbrev pub told_bytes : Result (List ℕ) Refusal → TagBytes
+told_bytes (Ok s) = record { number = 0; bytes = s }
+told_bytes (Err r) = record { number = number_of r; bytes = replicate bytes_long 0 }

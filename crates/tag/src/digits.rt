@@ -1,5 +1,5 @@
 // A tag's sixteen BCD digits: the numbers and the mark out of eight bytes, and back.
-ghost use Rattle.std.specs.Prelude.{◌≡◌, ◌&&◌, [], ◌∷◌, ◌+◌, ◌*◌, ◌/◌, ◌%◌, ◌<◌, leb};
+ghost use Rattle.std.specs.Prelude.{◌≡◌, ◌&&◌, ◌+◌, ◌*◌, ◌/◌, ◌%◌, ◌<◌, leb};
 ghost use Rattle.ground.specs.Choice.{pick};
 ghost use Rattle.tag.specs.Digits.{decimal};
 ghost use Rattle.tag.specs.Tags.{tag_digits, tag_of, bytes_of};
@@ -27,9 +27,10 @@ fn is_bcd(b: u8) -> bool
 }
 
 // No digit of eight bytes is above 9.
-pub(crate) fn are_decimal(a: u8, b: u8, c: u8, d: u8, e: u8, f: u8, g: u8, h: u8) -> bool
-    ensures { result ≡ decimal (tag_digits (a ∷ b ∷ c ∷ d ∷ e ∷ f ∷ g ∷ h ∷ [])) }
+pub(crate) fn are_decimal(bytes: &[u8; BYTES]) -> bool
+    ensures { result ≡ decimal (tag_digits bytes.now) }
 {
+    let [a, b, c, d, e, f, g, h] = *bytes;
     is_bcd(a)
         & (is_bcd(b)
             & (is_bcd(without_mark(c))
@@ -72,9 +73,10 @@ fn three_from(a: u8, b: u8) -> u16
 }
 
 // What eight bytes say, digits above 9 and numbers out of bounds among them.
-pub(crate) fn tag_of(a: u8, b: u8, c: u8, d: u8, e: u8, f: u8, g: u8, h: u8) -> Tag
-    ensures { result ≡ tag_of (a ∷ b ∷ c ∷ d ∷ e ∷ f ∷ g ∷ h ∷ []) }
+pub(crate) fn tag_of(bytes: &[u8; BYTES]) -> Tag
+    ensures { result ≡ tag_of bytes.now }
 {
+    let [a, b, c, d, e, f, g, h] = *bytes;
     Tag {
         year: four(a, b),
         day: three_to(without_mark(c), d),
@@ -108,7 +110,7 @@ fn with_mark(flywheel: bool, third: u8) -> u8
 }
 
 // The eight bytes of a tag. A day of at most 799 leaves the first bit of byte 3 to the mark.
-pub(crate) fn bytes_of(tag: Tag) -> [u8; 8]
+pub(crate) fn bytes_of(tag: Tag) -> [u8; BYTES]
     requires { tag.day < 800 }
     ensures { result ≡ bytes_of tag }
 {

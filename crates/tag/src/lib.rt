@@ -2,13 +2,16 @@
 // the last minute has a second 60. What a good tag is and what it means stands in specs/, what is promised in specs/Promises.antt.
 #![tactic(auto)]
 
-ghost use Rattle.std.specs.Prelude.{◌≡◌, [], ◌∷◌, replicate};
-ghost use Rattle.tag.specs.Tags.{ends_day, good_second, in_bounds, read_by, read_tag, write_tag, zero_tag};
+ghost use Rattle.std.specs.Prelude.{◌≡◌};
+ghost use Rattle.tag.specs.Tags.{ends_day, good_second, in_bounds, told_tag, read_by, read_tag, told_bytes, write_tag, zero_tag};
+
+use digits::BYTES;
+use ground::Refusal;
 
 mod digits; // numbers and the mark out of eight bytes, and back
 
 // The numbers of a tag and its mark. Any are held; `in_bounds` says whether they are a tag's.
-#[derive(Clone, Copy)]
+#[derive(Clone, Copy, Debug, PartialEq, Eq)]
 pub struct Tag {
     pub year: u16,
     pub day: u16,
@@ -17,20 +20,6 @@ pub struct Tag {
     pub second: u8,
     pub ms: u16,
     pub flywheel: bool,
-}
-
-// What reading answers: 0 and the tag, or 19 or 12 and the zero tag.
-#[derive(Clone, Copy)]
-pub struct TagRead {
-    pub number: u8,
-    pub tag: Tag,
-}
-
-// What writing answers: 0 and the bytes, or 19 or 12 and zeros.
-#[derive(Clone, Copy)]
-pub struct TagBytes {
-    pub number: u8,
-    pub bytes: [u8; 8],
 }
 
 // The bounds of a tag's numbers; of its year and its day, the calendar's.
@@ -91,77 +80,41 @@ pub fn zero_tag() -> Tag
     }
 }
 
-fn refused(number: u8) -> TagRead
-    ensures { result ≡ record { number = number; tag = zero_tag } }
-{
-    let zero = zero_tag();
-    TagRead {
-        number: number,
-        tag: zero,
-    }
-}
-
-// Eight bytes, one by one.
-fn read_eight(a: u8, b: u8, c: u8, d: u8, e: u8, f: u8, g: u8, h: u8, leaps: &[u32]) -> TagRead
-    ensures { result ≡ read_by leaps.now (a ∷ b ∷ c ∷ d ∷ e ∷ f ∷ g ∷ h ∷ []) }
-{
-    let tag = digits::tag_of(a, b, c, d, e, f, g, h);
-    if digits::are_decimal(a, b, c, d, e, f, g, h) & in_bounds(tag, leaps) {
-        TagRead {
-            number: ground::ACCEPTED,
-            tag: tag,
-        }
-    } else {
-        refused(ground::BAD_TAG)
-    }
-}
-
 // Reads a tag of any lent bytes by a list that is taken as it is: for a caller who has it tested.
-pub fn read_by(bytes: &[u8], leaps: &[u32]) -> TagRead
-    ensures { result ≡ read_by leaps.now bytes.now }
+pub fn read_by(bytes: &[u8], leaps: &[u32]) -> Result<Tag, Refusal>
+    ensures { told_tag result ≡ read_by leaps.now bytes.now }
 {
-    if bytes.len() != digits::BYTES {
-        return refused(ground::BAD_TAG);
+    let Ok(bytes) = <&[u8; BYTES]>::try_from(bytes) else {
+        return Err(Refusal::BadTag);
+    };
+    let tag = digits::tag_of(bytes);
+    if digits::are_decimal(bytes) & in_bounds(tag, leaps) {
+        Ok(tag)
+    } else {
+        Err(Refusal::BadTag)
     }
-    read_eight(
-        bytes[0], bytes[1], bytes[2], bytes[3], bytes[4], bytes[5], bytes[6], bytes[7], leaps,
-    )
 }
 
 // Reads a tag of any lent bytes, where the list is a good one.
-pub fn read_tag(bytes: &[u8], leaps: &[u32]) -> TagRead
-    ensures { result ≡ read_tag leaps.now bytes.now }
+pub fn read_tag(bytes: &[u8], leaps: &[u32]) -> Result<Tag, Refusal>
+    ensures { told_tag result ≡ read_tag leaps.now bytes.now }
 {
     if calendar::is_good_list(leaps) {
         read_by(bytes, leaps)
     } else {
-        refused(ground::BAD_LEAP_DAYS)
-    }
-}
-
-fn no_bytes(number: u8) -> TagBytes
-    ensures { result ≡ record { number = number; bytes = replicate 8 0 } }
-{
-    let bytes = [0u8; digits::BYTES];
-    TagBytes {
-        number: number,
-        bytes: bytes,
+        Err(Refusal::BadLeapDays)
     }
 }
 
 // Writes a tag, of any numbers.
-pub fn write_tag(tag: Tag, leaps: &[u32]) -> TagBytes
-    ensures { result ≡ write_tag leaps.now tag }
+pub fn write_tag(tag: Tag, leaps: &[u32]) -> Result<[u8; 8], Refusal>
+    ensures { told_bytes result ≡ write_tag leaps.now tag }
 {
     if !calendar::is_good_list(leaps) {
-        return no_bytes(ground::BAD_LEAP_DAYS);
+        return Err(Refusal::BadLeapDays);
     }
     if !in_bounds(tag, leaps) {
-        return no_bytes(ground::BAD_TAG);
+        return Err(Refusal::BadTag);
     }
-    let bytes = digits::bytes_of(tag);
-    TagBytes {
-        number: ground::ACCEPTED,
-        bytes: bytes,
-    }
+    Ok(digits::bytes_of(tag))
 }
