@@ -6,12 +6,16 @@ use native.Mathlib.Omega.{arith}
 use mathlib.Core.Bool.{Bool, true, false, ◌&&◌}
 use mathlib.Core.List.{List, [], ◌∷◌}
 use lib.Dec.{eqb, leb}
+use Rattle.std.specs.Prelude.{Ok, Err}
 use lib.ListN.{length, get_or}
 use borrow.Author.Tests.{eq-eqb, ne_eqb}
 use Rattle.ground.specs.Choice.{pick}
+use Rattle.ground.specs.declared.Refusal.{Refusal}
+use Rattle.ground.specs.Refusals.{number_of}
+use Rattle.ground.proofs.LawsRefusals.{never_zero}
 use Rattle.tag.specs.Digits.{digits_of, paired, decimal, value_of, spelt}
 use Rattle.calendar.specs.Leaps.{good_list}
-use Rattle.tag.specs.Tags.{tag_digits, tag_of, bytes_of, in_bounds, good_tag, TagRead, TagBytes, read_by, read_tag, zero_tag}
+use Rattle.tag.specs.Tags.{tag_digits, tag_of, bytes_of, in_bounds, good_tag, TagRead, TagBytes, told_tag, read_by, read_tag, zero_tag}
 use Rattle.tag.specs.declared.Tag.{Tag}
 use Rattle.ground.proofs.LawsTests.{second, and_true, and_assoc}
 
@@ -57,7 +61,7 @@ module _ (a b c d e f g h : ℕ) where
   unfolding value_of
   across x y = omega arith
 
-  says : {year third day hour minute second ms : ℕ} → year ≡ two a * 100 + two b → third ≡ c % 128 → day ≡ two third * 10 + d / 16 → hour ≡ d % 16 * 10 + e / 16
+  pub says : {year third day hour minute second ms : ℕ} → year ≡ two a * 100 + two b → third ≡ c % 128 → day ≡ two third * 10 + d / 16 → hour ≡ d % 16 * 10 + e / 16
       → minute ≡ e % 16 * 10 + f / 16 → second ≡ f % 16 * 10 + g / 16 → ms ≡ g % 16 * 100 + two h
       → tag year day hour minute second ms (leb 128 c) ≡ tag_of (a ∷ b ∷ c ∷ d ∷ e ∷ f ∷ g ∷ h ∷ [])
   unfolding tag_of digits_of
@@ -156,6 +160,21 @@ module _ (leaps s : List ℕ) where
       by : (b : Bool) → good_tag leaps s ≡ b → eqb (read_by leaps s).number 0 ≡ b
       by true h = ap (λ (r : TagRead). eqb r.number 0) (reads h)
       by false h = ap (λ (r : TagRead). eqb r.number 0) (refuses h)
+
+  -- What an answer says of the tag.
+  pub was_good : (t : Tag) → told_tag (Ok t) ≡ read_by leaps s → (good_tag leaps s ≡ true) × (t ≡ tag_of s)
+  was_good t e = by (good_tag leaps s) refl
+    where
+      by : (b : Bool) → good_tag leaps s ≡ b → (b ≡ true) × (t ≡ tag_of s)
+      by true h = (refl, ap (λ (r : TagRead). r.tag) (e ∙ reads h))
+      by false h = absurd (let z : ◌≡◌ {A = ℕ} 0 12 = ap (λ (r : TagRead). r.number) (e ∙ refuses h) in omega arith)
+
+  pub was_bad : (x : Refusal) → told_tag (Err x) ≡ read_by leaps s → (good_tag leaps s ≡ false) × (number_of x ≡ 12)
+  was_bad x e = by (good_tag leaps s) refl
+    where
+      by : (b : Bool) → good_tag leaps s ≡ b → (b ≡ false) × (number_of x ≡ 12)
+      by true h = absurd (never_zero x (ap (λ (r : TagRead). r.number) (e ∙ reads h)))
+      by false h = (refl, ap (λ (r : TagRead). r.number) (e ∙ refuses h))
 
   -- By a list that is one the tag decides; where it is none, nothing else does.
   pub by_list : good_list leaps ≡ true → read_tag leaps s ≡ read_by leaps s

@@ -6,7 +6,7 @@ use Prim.Native.Nat.{ℕ, zero, suc, ◌+◌, ◌-◌, ◌≤◌, ◌<◌, ◌^�
 use native.Mathlib.Omega.{arith}
 use mathlib.Core.Bool.{Bool, true, false, cond, not, ◌&&◌}
 use mathlib.Core.List.{List}
-use lib.Dec.{eqb, ltb, le→leb, lt→ltb}
+use lib.Dec.{ltb, le→leb, lt→ltb}
 use lib.IntN.{ℤ, pos, negsuc, sub_ℕ, ◌-ℤ◌}
 use lib.Signed.{mag, lt_z, ◌<ℤ◌, ◌≤ℤ◌, lt_z_yes, le_z_yes}
 use mir.Syntax.{w64}
@@ -16,12 +16,9 @@ use borrow.Author.Rules.{sfits_of}
 use borrow.Author.Tests.{lt-ltb, le-ltb, ltb-true, ltb-false}
 use Rattle.ground.specs.Choice.{pick}
 use Rattle.calendar.specs.Leaps.{good_list}
-use Rattle.tag.specs.Tags.{tag_of, good_tag, read_by}
-use Rattle.tag.specs.declared.TagRead.{TagRead}
-use Rattle.tag.proofs.LawsTags.{accepted_by}
-use Rattle.time.specs.Times.{time_of, between, elapsed_of}
+use Rattle.tag.specs.Tags.{tag_of, good_tag}
+use Rattle.time.specs.Times.{time_of, between, Elapsed, elapsed_of}
 use Rattle.tag.specs.declared.Tag.{Tag}
-use Rattle.time.specs.declared.count.Elapsed.{Elapsed}
 use Rattle.ground.proofs.LawsTests.{never, both}
 
 pub minus : (a b : ℕ) → pos a -ℤ pos b ≡ sub_ℕ a b
@@ -95,7 +92,3 @@ module _ (leaps a b : List ℕ) where
 
   pub not_listed : good_list leaps ≡ false → elapsed_of leaps a b ≡ answer 19 (pos 0)
   not_listed l = answers false (good_tag leaps a && good_tag leaps b) l refl
-
-  -- An answer of 0 to each says that both tags are good.
-  pub both_accepted : {r q : TagRead} → r ≡ read_by leaps a → q ≡ read_by leaps b → eqb r.number 0 && eqb q.number 0 ≡ good_tag leaps a && good_tag leaps b
-  both_accepted e f = (λ i. eqb (e i).number 0 && eqb (f i).number 0) ∙ (λ i. accepted_by leaps a i && accepted_by leaps b i)

@@ -1,17 +1,10 @@
 // What time a tag says, as a count of milliseconds.
-ghost use Rattle.std.specs.Prelude.{◌≡◌, ◌&&◌, ◌<◌, ◌^◌, eqb, take};
+ghost use Rattle.std.specs.Prelude.{◌≡◌, ◌<◌, ◌^◌, take};
 ghost use Rattle.calendar.specs.Leaps.{most_leaps};
 ghost use Rattle.time.specs.Years.{days_before};
 ghost use Rattle.time.specs.Times.{count_of, time_of};
 
 use tag::Tag;
-
-// What the time between two lent tags answers: 0 and the milliseconds, or 19 or 12 and zero.
-#[derive(Clone, Copy)]
-pub struct Elapsed {
-    pub number: u8,
-    pub ms: i64,
-}
 
 const HOURS: u64 = 24;
 
@@ -47,10 +40,4 @@ pub(crate) fn milliseconds(tag: Tag, leaps: &[u32]) -> u64
     let count = counted(tag);
     let leap_seconds = calendar::listed_before(leaps, tag.year, tag.day);
     count + MS * leap_seconds
-}
-
-pub(crate) fn both_good(first: u8, second: u8) -> bool
-    ensures { result ≡ eqb first 0 && eqb second 0 }
-{
-    (first == ground::ACCEPTED) & (second == ground::ACCEPTED)
 }

@@ -1,15 +1,14 @@
 // The elapsed time from a first tag to a second. The count behind it is in specs/Times.antt, what is promised of it in specs/Promises.antt.
 #![tactic(auto)]
 
-ghost use Rattle.std.specs.Prelude.{◌≡◌, pos, take};
+ghost use Rattle.std.specs.Prelude.{◌≡◌, take};
 ghost use Rattle.calendar.specs.Leaps.{most_leaps};
-ghost use Rattle.time.specs.Times.{between, elapsed_of};
+ghost use Rattle.time.specs.Times.{between, told, elapsed_of};
 
+use ground::Refusal;
 use tag::Tag;
 
 mod count; // milliseconds to a tag's time
-
-pub use count::Elapsed;
 
 // The time from a first tag to a second, of any numbers: below zero where the second tag is the earlier one. Of a list, of any days, the first
 // 64 are counted: a longer one is none.
@@ -21,32 +20,14 @@ pub fn between(from: Tag, to: Tag, leaps: &[u32]) -> i64
     end as i64 - start as i64
 }
 
-fn refused(number: u8) -> Elapsed
-    ensures { result ≡ record { number = number; ms = pos 0 } }
-{
-    Elapsed {
-        number: number,
-        ms: 0,
-    }
-}
-
 // The same of two tags as lent bytes, where the list is a good one.
-pub fn elapsed(from: &[u8], to: &[u8], leaps: &[u32]) -> Elapsed
-    ensures { result ≡ elapsed_of leaps.now from.now to.now }
+pub fn elapsed(from: &[u8], to: &[u8], leaps: &[u32]) -> Result<i64, Refusal>
+    ensures { told result ≡ elapsed_of leaps.now from.now to.now }
 {
     if !calendar::is_good_list(leaps) {
-        return refused(ground::BAD_LEAP_DAYS);
+        return Err(Refusal::BadLeapDays);
     }
-    let first = tag::read_by(from, leaps);
-    let second = tag::read_by(to, leaps);
-    if !count::both_good(first.number, second.number) {
-        return refused(ground::BAD_TAG);
-    }
-    let start = first.tag;
-    let end = second.tag;
-    let ms = between(start, end, leaps);
-    Elapsed {
-        number: ground::ACCEPTED,
-        ms: ms,
-    }
+    let start = tag::read_by(from, leaps)?;
+    let end = tag::read_by(to, leaps)?;
+    Ok(between(start, end, leaps))
 }

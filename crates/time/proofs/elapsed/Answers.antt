@@ -1,41 +1,50 @@
--- `time::elapsed` tests the list and reads both tags, and an answer of 0 to each says that it is good.
+-- `time::elapsed` tests the list and reads both tags, each of which refuses a bad one with 12.
 -- Assumes nothing.
 use mathlib.Core.Path.{ap, sym, ◌∙◌}
-use lib.IntN.{ℤ}
+use mathlib.Core.Bool.{Bool, ◌&&◌}
+use lib.IntN.{ℤ, pos}
 use mir.Syntax.{w64}
 use mir.Facts.{to_z-of_z}
 use borrow.Author.Rules.{sfits_of}
+use Prim.Native.Nat.{ℕ}
 use Rattle.calendar.proofs.LawsLists.{all_first}
 use Rattle.tag.specs.Tags.{good_tag}
-use Rattle.time.specs.Times.{between}
-use Rattle.ground.proofs.LawsTests.{first, second}
-use Rattle.tag.proofs.LawsTags.{reads}
-use Rattle.time.proofs.LawsTimes.{answer, counted, not_counted, not_listed, both_accepted}
+use Rattle.ground.proofs.LawsRefusals.{passed_on}
+use Rattle.ground.proofs.LawsTests.{not_second}
+use Rattle.tag.proofs.LawsTags.{was_good, was_bad}
+use Rattle.time.specs.Times.{told, between}
+use Rattle.time.proofs.LawsTimes.{answer, counted, not_counted, not_listed}
 use Rattle.time.proofs.elapsed.Goals as goal
 
 pub returns-then-not-is_good_list : goal.returns-then-not-is_good_list
 returns-then-not-is_good_list c =
     let a = c.args in
-    c.refused.ensures ∙ sym (not_listed a.leaps.now a.from.now a.to.now (sym c.is_good_list.ensures ∙ c.if-not-is_good_list.true))
+    sym (not_listed a.leaps.now a.from.now a.to.now (sym c.is_good_list.ensures ∙ c.if-not-is_good_list.true))
 
-pub returns-then-not-both_good : goal.returns-then-not-both_good
-returns-then-not-both_good c =
+pub returns-in_err-start : goal.returns-in_err-start
+returns-in_err-start c =
     let a = c.args in
-    let good = c.both_good.ensures ∙ both_accepted a.leaps.now a.from.now a.to.now c.read_by-first.ensures c.read_by-second.ensures in
-    c.refused-then-not-both_good.ensures
-    ∙ sym (not_counted a.leaps.now a.from.now a.to.now (sym c.is_good_list.ensures ∙ c.if-not-is_good_list.false) (sym good ∙ c.if-not-both_good.true))
+    let l = sym c.is_good_list.ensures ∙ c.if-not-is_good_list.false in
+    let k = was_bad a.leaps.now a.from.now _ c.in_err-start.ensures in
+    ap told (passed_on c.from_residual.result c.from_residual.ensures.1)
+    ∙ ap (λ (n : ℕ). answer n (pos 0)) k.1
+    ∙ sym (not_counted a.leaps.now a.from.now a.to.now l (ap (λ (t : Bool). t && good_tag a.leaps.now a.to.now) k.0))
+
+pub returns-in_err-end : goal.returns-in_err-end
+returns-in_err-end c =
+    let a = c.args in
+    let l = sym c.is_good_list.ensures ∙ c.if-not-is_good_list.false in
+    let k = was_bad a.leaps.now a.to.now _ c.in_err-end.ensures in
+    ap told (passed_on c.from_residual-in_err-end.result c.from_residual-in_err-end.ensures.1)
+    ∙ ap (λ (n : ℕ). answer n (pos 0)) k.1
+    ∙ sym (not_counted a.leaps.now a.from.now a.to.now l (not_second (good_tag a.leaps.now a.from.now) k.0))
 
 pub returns : goal.returns
 returns c =
     let a = c.args in
-    let good = c.both_good.ensures ∙ both_accepted a.leaps.now a.from.now a.to.now c.read_by-first.ensures c.read_by-second.ensures in
-    let yes = sym good ∙ c.if-not-both_good.false in
     let l = sym c.is_good_list.ensures ∙ c.if-not-is_good_list.false in
-    let p = first (good_tag a.leaps.now a.from.now) (good_tag a.leaps.now a.to.now) yes in
-    let q = second (good_tag a.leaps.now a.from.now) (good_tag a.leaps.now a.to.now) yes in
+    let p = was_good a.leaps.now a.from.now _ c.in_ok-start.ensures in
+    let q = was_good a.leaps.now a.to.now _ c.in_ok-end.ensures in
     ap (λ (d : ℤ). answer 0 d)
-    (to_z-of_z (sfits_of {w = w64} c.between-ms.type_inv)
-    ∙ c.between-ms.ensures
-    ∙ (λ i.
-    between (all_first a.leaps.now l i) ((c.read_by-first.ensures ∙ reads a.leaps.now a.from.now p) i).tag ((c.read_by-second.ensures ∙ reads a.leaps.now a.to.now q) i).tag))
-    ∙ sym (counted a.leaps.now a.from.now a.to.now l p q)
+    (to_z-of_z (sfits_of {w = w64} c.between.type_inv) ∙ c.between.ensures ∙ (λ i. between (all_first a.leaps.now l i) (p.1 i) (q.1 i)))
+    ∙ sym (counted a.leaps.now a.from.now a.to.now l p.0 q.0)
