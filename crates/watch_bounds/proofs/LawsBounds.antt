@@ -3,17 +3,15 @@
 -- Assumes nothing.
 use mathlib.Core.Path.{◌≡◌, refl, sym, ap, ◌∙◌}
 use Prim.Native.Nat.{ℕ, ◌≤◌}
-use mathlib.Core.Bool.{Bool, true, false, not, ◌&&◌, ◌||◌}
+use mathlib.Core.Bool.{Bool, true, false, ◌&&◌, ◌||◌}
 use mathlib.Core.List.{List}
 use native.Mathlib.Omega.{arith}
 use lib.Dec.{eqb, ltb}
-use borrow.Author.Tests.{ltb-false, not-false, eqb-true, ne_eqb}
+use borrow.Author.Tests.{ltb-false, not-false, ne_eqb}
 use Rattle.ground.specs.Grounds.{first_of}
 use Rattle.calendar.specs.Leaps.{good_list}
-use Rattle.tag.specs.Tags.{tag_of, good_tag, read_by}
-use Rattle.tag.specs.declared.TagRead.{TagRead}
+use Rattle.tag.specs.Tags.{good_tag}
 use Rattle.ground.proofs.LawsTests.{never}
-use Rattle.tag.proofs.LawsTags.{accepted_by, reads}
 use Rattle.ground.proofs.LawsGrounds.{first_none, first_then}
 use Rattle.ground.specs.Choice.{pick}
 use Rattle.ground.proofs.LawsChoice.{yes, no, either}
@@ -74,18 +72,10 @@ module _ (leaps : List ℕ) (w : Watch) (b : ℕ) (s : List ℕ) where
   pub lent_number : {n : ℕ} → n ≡ first_of (lent leaps w) → (n ≡ 0 → ⊥) → n ≡ refusal_of leaps w b s
   lent_number e h = sym (both_lists ∙ sym (no _ refl (ne_eqb (first_of (lent leaps w)) 0 (λ z. h (e ∙ z))) e))
 
-  -- of a record that passed, by what reading the offered tag answered
-  module _ {n m : ℕ} {r : TagRead} {t good : Bool} (Lent-is : n ≡ first_of (lent leaps w)) (test : t ≡ eqb n 0) (left : not t ≡ false) (read : r ≡ read_by leaps s) (good-is : good ≡ eqb r.number 0)
-      (offered-is : m ≡ first_of (offered b good)) where
-    pub offered_number : m ≡ refusal_of leaps w b s
-    offered_number =
-        offered-is
-        ∙ ap (λ (g : Bool). first_of (offered b g)) (good-is ∙ ap (λ (q : TagRead). eqb q.number 0) read ∙ accepted_by leaps s)
-        ∙ yes _ refl (ap (λ (k : ℕ). eqb k 0) (sym Lent-is) ∙ sym test ∙ not-false t left) refl
-        ∙ sym both_lists
-
-    pub no_number : {u : Bool} → u ≡ eqb m 0 → not u ≡ false → refusal_of leaps w b s ≡ 0
-    no_number {u} e h = sym offered_number ∙ eqb-true m 0 (sym e ∙ not-false u h)
-
-  pub tag_of_is : {r : TagRead} → r ≡ read_by leaps s → refusal_of leaps w b s ≡ 0 → r.tag ≡ tag_of s
-  tag_of_is e h = λ i. ((e ∙ reads leaps s (accepted_for leaps w b s h).tag) i).tag
+  -- of a record that passed, by whether the offered tag is good
+  pub offered_number : {m : ℕ} {good : Bool} → 0 ≡ first_of (lent leaps w) → m ≡ first_of (offered b good) → good ≡ good_tag leaps s → m ≡ refusal_of leaps w b s
+  offered_number {m} {good} none offered-is good-is =
+      offered-is
+      ∙ ap (λ (g : Bool). first_of (offered b g)) good-is
+      ∙ yes _ refl (ap (λ (k : ℕ). eqb k 0) (sym none)) refl
+      ∙ sym both_lists

@@ -5,9 +5,11 @@
 
 ghost use Rattle.std.specs.Prelude.{◌≡◌, true, ◌≤◌, ltb};
 ghost use Rattle.ground.specs.Grounds.{first_of};
+ghost use Rattle.ground.specs.Refusals.{number_in};
 ghost use Rattle.row.specs.Rows.{last_block};
 ghost use Rattle.watch_bounds.specs.Bounds.{longest_wait, bounding, bad_expected, bad_fill, bad_last, lent, offered};
 
+use ground::Refusal;
 use tag::Tag;
 use watch_rule::LAST_OF_SCAN;
 
@@ -16,7 +18,7 @@ const LONGEST_WAIT: u32 = 3600000;
 
 // Idle or open. Open, it has the block that it expects next, 1 to 10, the last tag, and which blocks of the scan were fill: a set, bit b
 // for block b. What an idle one holds of the first two is not read, and its set is empty.
-#[derive(Clone, Copy)]
+#[derive(Clone, Copy, Debug, PartialEq, Eq)]
 pub struct Watch {
     pub opened: bool,
     pub expected: u8,
@@ -66,37 +68,37 @@ fn unknown_block(block: u8) -> bool
     row::LAST_BLOCK < block
 }
 
-// The number of the first ground that holds, of the lent record and the list lent with it.
-pub fn lent(w: Watch, leaps: &[u32]) -> u8
-    ensures { result ≡ first_of (lent leaps.now w) }
+// The first ground that refuses the lent record or the list lent with it, where one does.
+pub fn lent(w: Watch, leaps: &[u32]) -> Result<(), Refusal>
+    ensures { number_in result ≡ first_of (lent leaps.now w) }
 {
     if too_long(w.limit) {
-        return ground::LONG_LIMIT;
+        return Err(Refusal::LongLimit);
     }
     if bad_expected(w) {
-        return ground::NO_RECORD;
+        return Err(Refusal::NoRecord);
     }
     if bad_fill(w) {
-        return ground::BAD_FILL;
+        return Err(Refusal::BadFill);
     }
     if !calendar::is_good_list(leaps) {
-        return ground::BAD_LEAP_DAYS;
+        return Err(Refusal::BadLeapDays);
     }
     if bad_last(w, leaps) {
-        return ground::BAD_TAG;
+        return Err(Refusal::BadTag);
     }
-    ground::ACCEPTED
+    Ok(())
 }
 
 // The same of the offered block and its tag, which is good or not.
-pub fn offered(block: u8, good: bool) -> u8
-    ensures { result ≡ first_of (offered block good) }
+pub fn offered(block: u8, good: bool) -> Result<(), Refusal>
+    ensures { number_in result ≡ first_of (offered block good) }
 {
     if unknown_block(block) {
-        return ground::UNKNOWN_BLOCK;
+        return Err(Refusal::UnknownBlock);
     }
     if !good {
-        return ground::BAD_TAG;
+        return Err(Refusal::BadTag);
     }
-    ground::ACCEPTED
+    Ok(())
 }

@@ -1,9 +1,8 @@
 -- `watch_bounds::offered` tests the block, then the tag: each return is the first ground that holds.
 -- Assumes nothing.
-use mathlib.Core.Path.{refl}
-use Rattle.ground.proofs.LawsChoice.{yes, no}
-use mathlib.Core.Path.{ap}
+use mathlib.Core.Path.{refl, ap}
 use mathlib.Core.Bool.{not}
+use Rattle.ground.proofs.LawsChoice.{yes, no}
 use Rattle.watch_bounds.proofs.offered.Goals as goal
 
 pub returns-then-unknown_block : goal.returns-then-unknown_block
