@@ -15,8 +15,7 @@ use Rattle.ground.specs.Choice.{pick}
 use Rattle.parity.specs.declared.Layout.{Layout}
 use Rattle.parity.specs.declared.Layout.TheVariants.{ImagerSpacelook, SounderSpacelook}
 use Rattle.parity.specs.declared.Section.{Section}
-use Rattle.parity.specs.declared.Sections.{Sections}
-use Rattle.parity.specs.Sections.{xor_of, ◌to◌kept_in◌, first_word, last_word, parity_word, word, words_from, sections_in, holds_in, verdicts_on}
+use Rattle.parity.specs.Sections.{SectionsAnswer, xor_of, ◌to◌kept_in◌, first_word, last_word, parity_word, word, words_from, sections_in, holds_in, verdicts_on}
 use Rattle.parity.specs.Words.{ground_of}
 use Rattle.parity.specs.Promises.{times_in, Covered, verdict, Judged}
 use Rattle.parity.proofs.LawsSections.{accepts}
@@ -143,7 +142,7 @@ covered = record {
 
 module _ (words : List ℕ) (h : ground_of words ≡ 0) where
   judged_as : (layout : Layout) (i : ℕ) → verdict layout words i ≡ get_or (verdicts_on layout words) i false
-  judged_as layout i = ap (λ (r : Sections). get_or r.holds i false) (sym (accepts layout words layout refl h))
+  judged_as layout i = ap (λ (r : SectionsAnswer). get_or r.holds i false) (sym (accepts layout words layout refl h))
 
   says : (s : Section) {v : Bool} → v ≡ holds_in s words → (v ≡ true) ↔ (xor_of (words_from (first_word s) (last_word s) words) ≡ word words (parity_word s))
   unfolding holds_in

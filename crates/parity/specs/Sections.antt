@@ -1,9 +1,11 @@
 -- Parity sections: what their parity is, which sections the two layouts have, and the verdicts on a block.
 -- Assumes nothing.
-use Rattle.std.specs.Prelude.{ℕ, ◌+◌, ◌-◌, ◌≤◌, Bool, false, eqb, length, get_or, take, drop}
+use Rattle.std.specs.Prelude.{ℕ, ◌+◌, ◌-◌, ◌≤◌, Bool, false, eqb, length, get_or, take, drop, Result, Ok, Err}
 use mathlib.Core.List.{List, [], ◌∷◌, ◌++◌, map, foldl}
 use Rattle.std.specs.Int.Bits.{bit_xor}
 use Rattle.ground.specs.Choice.{pick}
+use Rattle.ground.specs.declared.Refusal.{Refusal}
+use Rattle.ground.specs.Refusals.{number_of}
 use Rattle.parity.specs.declared.Layout.{Layout}
 use Rattle.parity.specs.declared.Layout.TheVariants.{ImagerSpacelook, SounderSpacelook}
 use Rattle.parity.specs.declared.Section.{Section}
@@ -60,15 +62,26 @@ four_of l = take 4 (l ++ (false ∷ false ∷ false ∷ false ∷ []))
 abbrev pub verdicts_on : Layout → List ℕ → List Bool
 verdicts_on layout words = four_of (map (λ s. holds_in s words) (sections_in layout))
 
-abbrev pub judged_as : ℕ → List Bool → Sections
+-- the answer as numbers: 0 and the verdicts with how many there are, or a refusal's number and zeros
+pub record SectionsAnswer : Type 0 where
+  pub number : ℕ
+  pub count : ℕ
+  pub holds : List Bool
+
+abbrev pub judged_as : ℕ → List Bool → SectionsAnswer
 judged_as n l = record { number = 0; count = n; holds = l }
 
 -- A refusal returns its number; every count and mark in it is zero.
-abbrev pub refused_by : ℕ → Sections
+abbrev pub refused_by : ℕ → SectionsAnswer
 refused_by n = record { number = n; count = 0; holds = four_of [] }
 
-unfoldable pub sections_of : Layout → List ℕ → Sections
+unfoldable pub sections_of : Layout → List ℕ → SectionsAnswer
 sections_of layout words =
     pick (eqb (ground_of words) 0)
     (judged_as (length (sections_in layout)) (verdicts_on layout words))
     (refused_by (ground_of words))
+
+-- what is told of an answer
+abbrev pub told : Result Sections Refusal → SectionsAnswer
+told (Ok s) = judged_as s.count s.holds
+told (Err r) = refused_by (number_of r)

@@ -3,12 +3,15 @@
 #![tactic(auto)]
 
 ghost use Rattle.std.specs.Prelude.{◌≡◌, length};
+ghost use Rattle.ground.specs.Refusals.{number_in};
 ghost use Rattle.parity.specs.declared.Layout.TheVariants.{ImagerSpacelook, SounderSpacelook};
 ghost use Rattle.parity.specs.Words.{block_words, any_large, ground_of};
-ghost use Rattle.parity.specs.Sections.{xor_of, holds_in, LiesIn, verdicts_on, judged_as, refused_by, sections_of};
+ghost use Rattle.parity.specs.Sections.{xor_of, holds_in, LiesIn, verdicts_on, sections_of, told};
+
+use ground::Refusal;
 
 // The published layouts whose sections are checked.
-#[derive(Clone, Copy)]
+#[derive(Clone, Copy, Debug, PartialEq, Eq)]
 pub enum Layout {
     // Block 1 of the Imager spacelook set, Table 3-22.
     ImagerSpacelook,
@@ -17,10 +20,9 @@ pub enum Layout {
 }
 
 // A verdict for each section of a layout: true where its parity holds. A layout of fewer than four sections leaves the last ones
-// false, and `count` says how many it has. On a refusal its number, and zeros.
-#[derive(Clone, Copy)]
+// false, and `count` says how many it has.
+#[derive(Clone, Copy, Debug, PartialEq, Eq)]
 pub struct Sections {
-    pub number: u8,
     pub count: u8,
     pub holds: [bool; 4],
 }
@@ -52,40 +54,29 @@ const SECTIONS: [Section; 6] = [
 pub fn parity_of(words: &[u16]) -> u16
     ensures { result ≡ xor_of words.now }
 {
-    let mut parity: u16 = 0;
-    let mut i = 0;
-    while i < words.len() {
-        parity = parity ^ words[i];
-        i += 1;
-    }
-    parity
+    words.iter().fold(0, |parity, word| parity ^ *word)
 }
 
 // No way out before the end: so the loop runs on many words at a time.
 fn any_large(words: &[u16]) -> bool
     ensures { result ≡ any_large words.now }
 {
-    let mut large = false;
-    let mut i = 0;
-    while i < words.len() {
-        large = large | (LARGEST_WORD < words[i]);
-        i += 1;
-    }
-    large
+    words
+        .iter()
+        .fold(false, |large, word| large | (LARGEST_WORD < *word))
 }
 
-// What a block of eight-bit words is refused for before it is read: 8 where it has not 8,040 words, 14 for a word above 255 anywhere
-// in it, 0 where neither holds.
-pub fn ground_of(words: &[u16]) -> u8
-    ensures { result ≡ ground_of words.now }
+// What a block of eight-bit words is refused for before it is read: that it has not 8,040 words, or a word above 255 anywhere in it.
+pub fn ground_of(words: &[u16]) -> Result<(), Refusal>
+    ensures { number_in result ≡ ground_of words.now }
 {
     if words.len() != BLOCK_WORDS {
-        return ground::WRONG_LENGTH;
+        return Err(Refusal::WrongLength);
     }
     if any_large(words) {
-        return ground::LARGE_WORD;
+        return Err(Refusal::LargeWord);
     }
-    ground::ACCEPTED
+    Ok(())
 }
 
 // The verdict on any row of the table.
@@ -93,10 +84,8 @@ fn section_holds(words: &[u16], s: Section) -> bool
     requires { LiesIn s (length words.now) }
     ensures { result ≡ holds_in s words.now }
 {
-    let from = s.0 - 1;
-    let to = s.1;
-    let at = s.2 - 1;
-    parity_of(&words[from..to]) == words[at]
+    let Section(first, last, parity) = s;
+    parity_of(&words[first - 1..last]) == words[parity - 1]
 }
 
 fn imager_verdicts(words: &[u16]) -> [bool; 4]
@@ -125,36 +114,19 @@ fn sounder_verdicts(words: &[u16]) -> [bool; 4]
     ]
 }
 
-fn refused(number: u8) -> Sections
-    ensures { result ≡ refused_by number }
-{
-    Sections {
-        number,
-        count: 0,
-        holds: [false, false, false, false],
-    }
-}
-
-fn judged(count: u8, holds: [bool; 4]) -> Sections
-    ensures { result ≡ judged_as count holds }
-{
-    Sections {
-        number: ground::ACCEPTED,
-        count,
-        holds,
-    }
-}
-
 // The verdicts of a layout's sections on a block that `ground_of` accepts.
-pub fn check_sections(layout: Layout, words: &[u16]) -> Sections
-    ensures { result ≡ sections_of layout words.now }
+pub fn check_sections(layout: Layout, words: &[u16]) -> Result<Sections, Refusal>
+    ensures { told result ≡ sections_of layout words.now }
 {
-    let number = ground_of(words);
-    if number != ground::ACCEPTED {
-        return refused(number);
-    }
-    match layout {
-        Layout::ImagerSpacelook => judged(IMAGER_SECTIONS, imager_verdicts(words)),
-        Layout::SounderSpacelook => judged(SOUNDER_SECTIONS, sounder_verdicts(words)),
-    }
+    ground_of(words)?;
+    Ok(match layout {
+        Layout::ImagerSpacelook => Sections {
+            count: IMAGER_SECTIONS,
+            holds: imager_verdicts(words),
+        },
+        Layout::SounderSpacelook => Sections {
+            count: SOUNDER_SECTIONS,
+            holds: sounder_verdicts(words),
+        },
+    })
 }
