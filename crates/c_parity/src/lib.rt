@@ -14,15 +14,22 @@ pub extern "C" fn rahmisve_parity_imager(words: &[u16], holds: &mut [u8; 4]) -> 
     ensures value { result ≡ (sections_of ImagerSpacelook words.now).number }
     ensures holds_after { holds.new ≡ marks_at (0 ∷ 1 ∷ 2 ∷ 3 ∷ []) (sections_of ImagerSpacelook words.now).holds }
 {
-    let judged = parity::check_sections(Layout::ImagerSpacelook, words);
-    let verdicts = judged.holds;
-    *holds = [
-        marked(verdicts[0]),
-        marked(verdicts[1]),
-        marked(verdicts[2]),
-        marked(verdicts[3]),
-    ];
-    judged.number
+    match parity::check_sections(Layout::ImagerSpacelook, words) {
+        Ok(judged) => {
+            let verdicts = judged.holds;
+            *holds = [
+                marked(verdicts[0]),
+                marked(verdicts[1]),
+                marked(verdicts[2]),
+                marked(verdicts[3]),
+            ];
+            ground::ACCEPTED
+        }
+        Err(refusal) => {
+            *holds = [0, 0, 0, 0];
+            refusal.number()
+        }
+    }
 }
 
 #[unsafe(no_mangle)]
@@ -30,8 +37,15 @@ pub extern "C" fn rahmisve_parity_sounder(words: &[u16], holds: &mut [u8; 2]) ->
     ensures value { result ≡ (sections_of SounderSpacelook words.now).number }
     ensures holds_after { holds.new ≡ marks_at (0 ∷ 1 ∷ []) (sections_of SounderSpacelook words.now).holds }
 {
-    let judged = parity::check_sections(Layout::SounderSpacelook, words);
-    let verdicts = judged.holds;
-    *holds = [marked(verdicts[0]), marked(verdicts[1])];
-    judged.number
+    match parity::check_sections(Layout::SounderSpacelook, words) {
+        Ok(judged) => {
+            let verdicts = judged.holds;
+            *holds = [marked(verdicts[0]), marked(verdicts[1])];
+            ground::ACCEPTED
+        }
+        Err(refusal) => {
+            *holds = [0, 0];
+            refusal.number()
+        }
+    }
 }

@@ -142,7 +142,7 @@ covered = record {
 
 module _ (words : List ℕ) (h : ground_of words ≡ 0) where
   judged_as : (layout : Layout) (i : ℕ) → verdict layout words i ≡ get_or (verdicts_on layout words) i false
-  judged_as layout i = ap (λ (r : SectionsAnswer). get_or r.holds i false) (sym (accepts layout words layout refl h))
+  judged_as layout i = ap (λ (r : SectionsAnswer). get_or r.holds i false) (sym (accepts layout words h))
 
   says : (s : Section) {v : Bool} → v ≡ holds_in s words → (v ≡ true) ↔ (xor_of (words_from (first_word s) (last_word s) words) ≡ word words (parity_word s))
   unfolding holds_in

@@ -1,4 +1,5 @@
 pub mod KeepsParity
 pub mod LawsSections
+pub mod LawsVerdicts
 pub mod LawsWords
 pub mod KeepsSections

@@ -2,11 +2,10 @@
 // its check word finds damaged can so be judged section by section.
 #![tactic(auto)]
 
-ghost use Rattle.std.specs.Prelude.{◌≡◌, length};
+ghost use Rattle.std.specs.Prelude.{◌≡◌, length, Ok};
 ghost use Rattle.ground.specs.Refusals.{number_in};
-ghost use Rattle.parity.specs.declared.Layout.TheVariants.{ImagerSpacelook, SounderSpacelook};
 ghost use Rattle.parity.specs.Words.{block_words, any_large, ground_of};
-ghost use Rattle.parity.specs.Sections.{xor_of, holds_in, LiesIn, verdicts_on, sections_of, told};
+ghost use Rattle.parity.specs.Sections.{xor_of, sections_in, holds_in, LiesIn, verdicts_on, judged_as, sections_of, told};
 
 use ground::Refusal;
 
@@ -17,6 +16,17 @@ pub enum Layout {
     ImagerSpacelook,
     // Block 1 of the Sounder spacelook set, Table 3-26 of the 2011 revision.
     SounderSpacelook,
+}
+
+impl Layout {
+    fn sections(self) -> &'static [Section]
+        ensures { result.now ≡ sections_in self }
+    {
+        match self {
+            Layout::ImagerSpacelook => IMAGER,
+            Layout::SounderSpacelook => SOUNDER,
+        }
+    }
 }
 
 // A verdict for each section of a layout: true where its parity holds. A layout of fewer than four sections leaves the last ones
@@ -35,20 +45,15 @@ const BLOCK_WORDS: usize = 8040;
 
 const LARGEST_WORD: u16 = 255;
 
-const IMAGER_SECTIONS: u8 = 4;
-
-const SOUNDER_SECTIONS: u8 = 2;
-
-// The four sections of the Imager layout, then the two of the Sounder layout. Words 7903 to 7905 are in none. A function copies the
-// table once and reads it at constant places only, so that the rows become numbers in the code.
-const SECTIONS: [Section; 6] = [
+// The Imager layout's sections. Words 7903 to 7905 are in none.
+const IMAGER: &[Section] = &[
     Section(1, 221, 222),
     Section(223, 701, 702),
     Section(703, 1181, 1182),
     Section(1183, 7902, 7906),
-    Section(1, 221, 222),
-    Section(223, 2926, 2927),
 ];
+
+const SOUNDER: &[Section] = &[Section(1, 221, 222), Section(223, 2926, 2927)];
 
 // The parity word of a section's words, of any size.
 pub fn parity_of(words: &[u16]) -> u16
@@ -79,39 +84,27 @@ pub fn ground_of(words: &[u16]) -> Result<(), Refusal>
     Ok(())
 }
 
-// The verdict on any row of the table.
-fn section_holds(words: &[u16], s: Section) -> bool
-    requires { LiesIn s (length words.now) }
-    ensures { result ≡ holds_in s words.now }
+fn section_holds(words: &[u16], section: Section) -> bool
+    requires { LiesIn section (length words.now) }
+    ensures { result ≡ holds_in section words.now }
 {
-    let Section(first, last, parity) = s;
+    let Section(first, last, parity) = section;
     parity_of(&words[first - 1..last]) == words[parity - 1]
 }
 
-fn imager_verdicts(words: &[u16]) -> [bool; 4]
+fn judge(layout: Layout, words: &[u16]) -> Sections
     requires { length words.now ≡ block_words }
-    ensures { result ≡ verdicts_on ImagerSpacelook words.now }
+    ensures { told (Ok result) ≡ judged_as (length (sections_in layout)) (verdicts_on layout words.now) }
 {
-    let rows = SECTIONS;
-    [
-        section_holds(words, rows[0]),
-        section_holds(words, rows[1]),
-        section_holds(words, rows[2]),
-        section_holds(words, rows[3]),
-    ]
-}
-
-fn sounder_verdicts(words: &[u16]) -> [bool; 4]
-    requires { length words.now ≡ block_words }
-    ensures { result ≡ verdicts_on SounderSpacelook words.now }
-{
-    let rows = SECTIONS;
-    [
-        section_holds(words, rows[4]),
-        section_holds(words, rows[5]),
-        false,
-        false,
-    ]
+    let sections = layout.sections();
+    let mut holds = [false; 4];
+    for (i, section) in sections.iter().enumerate() {
+        holds[i] = section_holds(words, *section);
+    }
+    Sections {
+        count: sections.len() as u8,
+        holds,
+    }
 }
 
 // The verdicts of a layout's sections on a block that `ground_of` accepts.
@@ -119,14 +112,5 @@ pub fn check_sections(layout: Layout, words: &[u16]) -> Result<Sections, Refusal
     ensures { told result ≡ sections_of layout words.now }
 {
     ground_of(words)?;
-    Ok(match layout {
-        Layout::ImagerSpacelook => Sections {
-            count: IMAGER_SECTIONS,
-            holds: imager_verdicts(words),
-        },
-        Layout::SounderSpacelook => Sections {
-            count: SOUNDER_SECTIONS,
-            holds: sounder_verdicts(words),
-        },
-    })
+    Ok(judge(layout, words))
 }

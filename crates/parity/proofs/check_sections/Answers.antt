@@ -2,8 +2,7 @@
 -- Assumes nothing.
 use mathlib.Core.Path.{sym, ap, ◌∙◌}
 use Rattle.ground.proofs.LawsRefusals.{never_zero, passed_on}
-use Rattle.parity.specs.declared.Layout.TheVariants.{ImagerSpacelook, SounderSpacelook}
-use Rattle.parity.specs.Sections.{judged_as, refused_by, told}
+use Rattle.parity.specs.Sections.{refused_by, told}
 use Rattle.parity.proofs.LawsSections.{accepts, refuses}
 use Rattle.parity.proofs.LawsWords.{right_length}
 use Rattle.parity.proofs.check_sections.Goals as goal
@@ -14,14 +13,8 @@ returns-in_err-ground_of c =
     ap told (passed_on c.from_residual.result c.from_residual.ensures.1)
     ∙ ap refused_by e ∙ sym (refuses c.args.layout c.args.words.now (λ z. never_zero c.in_err-ground_of.field-0.0 (e ∙ z)))
 
-pub imager_verdicts-requires : goal.imager_verdicts-requires
-imager_verdicts-requires c = right_length _ (sym c.in_ok-ground_of.ensures)
+pub judge-requires : goal.judge-requires
+judge-requires c = right_length _ (sym c.in_ok-ground_of.ensures)
 
-pub sounder_verdicts-requires : goal.sounder_verdicts-requires
-sounder_verdicts-requires c = right_length _ (sym c.in_ok-ground_of.ensures)
-
-pub returns-in-ImagerSpacelook : goal.returns-in-ImagerSpacelook
-returns-in-ImagerSpacelook c = ap (judged_as _) c.imager_verdicts.ensures ∙ accepts _ _ ImagerSpacelook c.in-ImagerSpacelook.is (sym c.in_ok-ground_of.ensures)
-
-pub returns-in-SounderSpacelook : goal.returns-in-SounderSpacelook
-returns-in-SounderSpacelook c = ap (judged_as _) c.sounder_verdicts.ensures ∙ accepts _ _ SounderSpacelook c.in-SounderSpacelook.is (sym c.in_ok-ground_of.ensures)
+pub returns : goal.returns
+returns c = c.judge.ensures ∙ accepts _ _ (sym c.in_ok-ground_of.ensures)

@@ -12,6 +12,6 @@ pub returns : goal.returns
 unfolding holds_in
 returns c =
     let a = c.args in
-    let n : a.s.1 - (a.s.0 - 1) ≡ a.s.1 + 1 - a.s.0 = omega arith in
-    ap (λ (x : ℕ). eqb x (word a.words.now a.s.2))
-    (c.parity_of.ensures ∙ ap (λ (k : ℕ). xor_of (take k (drop (a.s.0 - 1) a.words.now))) n)
+    let n : a.section.1 - (a.section.0 - 1) ≡ a.section.1 + 1 - a.section.0 = omega arith in
+    ap (λ (x : ℕ). eqb x (word a.words.now a.section.2))
+    (c.parity_of.ensures ∙ ap (λ (k : ℕ). xor_of (take k (drop (a.section.0 - 1) a.words.now))) n)
