@@ -20,10 +20,9 @@ use Rattle.bits.specs.Bits.{bits, spell, sent}
 use Rattle.bits.specs.Fields.{all_zero}
 use Rattle.bits.proofs.LawsBelow.{below_at, below_take}
 use Rattle.bits.proofs.LawsWords.{length_spell, spell_below}
-use Rattle.detectors.specs.declared.First.{First}
-use Rattle.detectors.specs.declared.First.TheVariants.{Nobody}
-use Rattle.detectors.specs.declared.Asked.{Asked}
-use Rattle.detectors.specs.Status.{detectors, spare_zero, set_in, before_set, place_at, before, channel_of, detector_of, suspects_of, inside, asked_of}
+use Rattle.std.specs.Prelude.{Option, None}
+use Rattle.detectors.specs.declared.Detector.{Detector}
+use Rattle.detectors.specs.Status.{Asked, detectors, spare_zero, set_in, before_set, place_at, before, channel_of, detector_of, suspects_of, inside, asked_of}
 use Rattle.detectors.specs.Promises.{Inside, Asking, is_suspect, sum_to, Counting, NoneSuspect, FirstSuspect, Finding, Sparing, Examples}
 use Rattle.detectors.proofs.LawsInside.{within}
 use Rattle.detectors.proofs.LawsSums.{sum_same, sum_parts, set_sum, before_zero, first_set, none_is_set, zero_each, each_zero}
@@ -105,10 +104,10 @@ abbrev ahead : List ℕ → ℕ
 ahead status = before_set (detectors status)
 
 -- fewer than 76 are a detector's place
-placed : (k : ℕ) → (place_at k ≡ Nobody) ↔ (76 ≤ k)
+placed : (k : ℕ) → (place_at k ≡ None) ↔ (76 ≤ k)
 unfolding place_at
 placed k = (
-  either (λ (f : First). f ≡ Nobody → 76 ≤ k) (ltb k 76) (λ e n. absurd (let z : ◌≡◌ {A = ℕ} 0 1 = cc in omega arith)) (λ e n. ltb-false k 76 e),
+  either (λ (f : Option Detector). f ≡ None → 76 ≤ k) (ltb k 76) (λ e n. absurd (let z : ◌≡◌ {A = ℕ} 0 1 = cc in omega arith)) (λ e n. ltb-false k 76 e),
   λ h. sym (no _ refl (le-ltb k 76 h) refl),
 )
 
@@ -118,7 +117,7 @@ unset status c d w h =
     let i = c * 4 + d - 5 in
     asked_bit status c d i w (omega arith) ∙ ap (λ (b : ℕ). eqb b 1) (before_zero (detectors status) i (omega arith))
 
-abbrev NoneOrFirst : List ℕ → First → Type 0
+abbrev NoneOrFirst : List ℕ → Option Detector → Type 0
 NoneOrFirst status f = (NoneSuspect status × (channel_of f ≡ 0) × (detector_of f ≡ 0)) ⊎ FirstSuspect status (channel_of f) (detector_of f)
 
 module _ (status : List ℕ) (ten : length status ≡ 10) where

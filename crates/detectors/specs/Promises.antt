@@ -1,11 +1,10 @@
 -- What is promised of the Sounder's detector status, which is ten bytes. It is said from the list of its bits in the order sent, most significant
 -- first: bit i + 1 is that of channel c, detector d, where i + 5 is 4 x c + d. The proofs are in proofs/KeepsDetectors.antt.
 -- Assumes nothing.
-use Rattle.std.specs.Prelude.{ℕ, zero, suc, ◌+◌, ◌*◌, ◌≤◌, ◌<◌, ◌≡◌, ◌⊎◌, ◌↔◌, Bool, true, false, List, [], ◌∷◌, ◌++◌, length, get_or, replicate}
+use Rattle.std.specs.Prelude.{ℕ, zero, suc, ◌+◌, ◌*◌, ◌≤◌, ◌<◌, ◌≡◌, ◌⊎◌, ◌↔◌, Bool, true, false, List, [], ◌∷◌, ◌++◌, length, get_or, replicate, Some, None}
 use Rattle.ground.specs.Choice.{pick}
 use Rattle.bits.specs.Bits.{sent}
 use Rattle.detectors.specs.Status.{spare_zero, channel_of, detector_of, suspects_of, asked_of}
-use Rattle.detectors.specs.declared.First.TheVariants.{Detector, Nobody}
 
 -- channels 1 to 19, detectors 1 to 4
 pub record Inside (channel detector : ℕ) : Type 0 where
@@ -49,8 +48,8 @@ pub record Finding : Type 0 where
   pub first : (status : List ℕ) → length status ≡ 10
       → let f = (suspects_of status).first in
       (NoneSuspect status × (channel_of f ≡ 0) × (detector_of f ≡ 0)) ⊎ FirstSuspect status (channel_of f) (detector_of f)
-  pub nobody : (status : List ℕ) → length status ≡ 10 → ((suspects_of status).first ≡ Nobody) ↔ NoneSuspect status
-  pub none_counted : (status : List ℕ) → length status ≡ 10 → ((suspects_of status).first ≡ Nobody) ↔ ((suspects_of status).count ≡ 0)
+  pub nobody : (status : List ℕ) → length status ≡ 10 → ((suspects_of status).first ≡ None) ↔ NoneSuspect status
+  pub none_counted : (status : List ℕ) → length status ≡ 10 → ((suspects_of status).first ≡ None) ↔ ((suspects_of status).count ≡ 0)
 
 -- The last four bits, 77 to 80.
 abbrev pub Sparing : Type 0
@@ -58,7 +57,7 @@ Sparing = (status : List ℕ) → length status ≡ 10 → (spare_zero status �
 
 -- 80 hex in the first byte, 10 hex and 08 hex in the last, and zeros elsewhere.
 pub record Examples : Type 0 where
-  pub first_bit : suspects_of (0x80 ∷ replicate 9 0) ≡ record { count = 1; first = Detector 1 1 }
-  pub last_bit : suspects_of (replicate 9 0 ++ (0x10 ∷ [])) ≡ record { count = 1; first = Detector 19 4 }
-  pub no_bit : suspects_of (replicate 10 0) ≡ record { count = 0; first = Nobody }
+  pub first_bit : suspects_of (0x80 ∷ replicate 9 0) ≡ record { count = 1; first = Some (record { channel = 1; number = 1 }) }
+  pub last_bit : suspects_of (replicate 9 0 ++ (0x10 ∷ [])) ≡ record { count = 1; first = Some (record { channel = 19; number = 4 }) }
+  pub no_bit : suspects_of (replicate 10 0) ≡ record { count = 0; first = None }
   pub spare_bit : spare_zero (replicate 9 0 ++ (0x08 ∷ [])) ≡ false

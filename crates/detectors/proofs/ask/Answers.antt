@@ -7,20 +7,19 @@ use Prim.Native.Nat.{ℕ}
 use lib.Dec.{eqb}
 use lib.ListN.{get_or}
 use Rattle.ground.proofs.LawsChoice.{yes, no}
-use Rattle.detectors.specs.Status.{asked_of}
-use Rattle.detectors.specs.declared.Asked.{Asked}
+use Rattle.detectors.specs.Status.{Asked, asked_of}
 use Rattle.detectors.proofs.ask.Goals as goal
 
-pub bits_before-requires : goal.bits_before-requires
-bits_before-requires c = sym c.is_inside.ensures ∙ c.if-is_inside.true
-
-pub returns-then-is_inside : goal.returns-then-is_inside
+pub returns-then-not-is_inside : goal.returns-then-not-is_inside
 unfolding asked_of
-returns-then-is_inside c =
-    yes _ c.is_inside.ensures c.if-is_inside.true
-    (ap {B = Asked} (λ (t : Bool). record { number = 0; suspect = t })
-    (c.bit_in.ensures ∙ ap₂ (λ (bs : List ℕ) (i : ℕ). eqb (get_or bs i 0) 1) (sym c.hold-held.ensures.1) c.bits_before.ensures.0))
+returns-then-not-is_inside c = no _ c.is_inside.ensures c.if-not-is_inside.true refl
+
+pub bits_before-requires : goal.bits_before-requires
+bits_before-requires c = sym c.is_inside.ensures ∙ c.if-not-is_inside.false
 
 pub returns : goal.returns
 unfolding asked_of
-returns c = no _ c.is_inside.ensures c.if-is_inside.false refl
+returns c =
+    yes _ c.is_inside.ensures c.if-not-is_inside.false
+    (ap {B = Asked} (λ (t : Bool). record { number = 0; suspect = t })
+    (c.bit_in.ensures ∙ ap₂ (λ (bs : List ℕ) (i : ℕ). eqb (get_or bs i 0) 1) (sym c.held_in.ensures.1) c.bits_before.ensures.0))

@@ -8,8 +8,8 @@ use Rattle.detectors.proofs.place_at.Goals as goal
 
 pub returns-then-before : goal.returns-then-before
 unfolding place_at
-returns-then-before c = yes _ refl (lt-ltb _ 76 c.if-before.true) refl
+returns-then-before c = no _ refl (le-ltb c.args.before 76 c.if-before.true) refl
 
-pub returns-else-before : goal.returns-else-before
+pub returns : goal.returns
 unfolding place_at
-returns-else-before c = no _ refl (le-ltb _ 76 c.if-before.false) refl
+returns c = yes _ refl (lt-ltb c.args.before 76 c.if-before.false) refl
