@@ -7,7 +7,7 @@ ghost use Rattle.floating.specs.Floating.{number_of, signed_of, reading_of};
 ghost use Rattle.floating.specs.Cases.{case_of, value_of};
 
 // What the four bytes of a number say.
-#[derive(Clone, Copy)]
+#[derive(Clone, Copy, Debug, PartialEq)]
 pub enum Reading {
     Number(f64),
     Zero,
