@@ -6,36 +6,38 @@ ghost use Rattle.parity.specs.declared.Layout.TheVariants.{ImagerSpacelook, Soun
 ghost use Rattle.floating.specs.Floating.{reading_of};
 ghost use Rattle.floating.specs.Cases.{case_of, value_of};
 ghost use Rattle.spacelook.specs.Answers.{answer_in, case_in, value_in};
-ghost use Rattle.spacelook.specs.Numbers.{found_of, filled_of, numbers_after, cases_after};
+ghost use Rattle.spacelook.specs.Found.{told};
+ghost use Rattle.spacelook.specs.Numbers.{found_of, told_of_all, filled_of, numbers_after, cases_after};
 
+use floating::Reading;
+use ground::Refusal;
 use parity::Layout;
-use spacelook::Found;
 
-fn answer_in(found: Found) -> u8
-    ensures { result ≡ answer_in found }
+// The case and the double of what is read, both zero on a refusal.
+fn tell(found: Result<Reading, Refusal>, reading: &mut u8, number: &mut f64) -> u8
+    ensures value { result ≡ answer_in (told found) }
+    ensures reading_after { reading.new ≡ case_in (told found) }
+    ensures number_after { number.new ≡ value_in (told found) }
 {
-    match found {
-        Found::Read(_) => ground::ACCEPTED,
-        Found::Refused(number) => number,
-    }
+    let (answer, case, value) = match found {
+        Ok(said) => (ground::ACCEPTED, floating::case_of(said), floating::value_of(said)),
+        Err(refusal) => (refusal.number(), 0, 0.0),
+    };
+    *reading = case;
+    *number = value;
+    answer
 }
 
-fn case_in(found: Found) -> u8
-    ensures { result ≡ case_in found }
+// How many numbers are read, 0 on a refusal.
+fn tell_count(filled: Result<usize, Refusal>, count: &mut usize) -> u8
+    ensures { record { number = result; count = count.new } ≡ told_of_all filled }
 {
-    match found {
-        Found::Read(reading) => floating::case_of(reading),
-        Found::Refused(_) => 0,
-    }
-}
-
-fn value_in(found: Found) -> f64
-    ensures { result ≡ value_in found }
-{
-    match found {
-        Found::Read(reading) => floating::value_of(reading),
-        Found::Refused(_) => 0.0,
-    }
+    let (answer, read) = match filled {
+        Ok(read) => (ground::ACCEPTED, read),
+        Err(refusal) => (refusal.number(), 0),
+    };
+    *count = read;
+    answer
 }
 
 #[unsafe(no_mangle)]
@@ -61,9 +63,7 @@ pub extern "C" fn rahmisve_spacelook_imager(
     ensures number_after { number.new ≡ value_in (found_of ImagerSpacelook words.now field index) }
 {
     let found = spacelook::read(Layout::ImagerSpacelook, words, field, index);
-    *reading = case_in(found);
-    *number = value_in(found);
-    answer_in(found)
+    tell(found, reading, number)
 }
 
 #[unsafe(no_mangle)]
@@ -79,9 +79,7 @@ pub extern "C" fn rahmisve_spacelook_sounder(
     ensures number_after { number.new ≡ value_in (found_of SounderSpacelook words.now field index) }
 {
     let found = spacelook::read(Layout::SounderSpacelook, words, field, index);
-    *reading = case_in(found);
-    *number = value_in(found);
-    answer_in(found)
+    tell(found, reading, number)
 }
 
 #[unsafe(no_mangle)]
@@ -96,8 +94,7 @@ pub extern "C" fn rahmisve_spacelook_imager_all(
     ensures readings_after { readings.new ≡ cases_after ImagerSpacelook words.now (length numbers.old) readings.old }
 {
     let filled = spacelook::read_all(Layout::ImagerSpacelook, words, numbers, readings);
-    *count = filled.count;
-    filled.number
+    tell_count(filled, count)
 }
 
 #[unsafe(no_mangle)]
@@ -112,6 +109,5 @@ pub extern "C" fn rahmisve_spacelook_sounder_all(
     ensures readings_after { readings.new ≡ cases_after SounderSpacelook words.now (length numbers.old) readings.old }
 {
     let filled = spacelook::read_all(Layout::SounderSpacelook, words, numbers, readings);
-    *count = filled.count;
-    filled.number
+    tell_count(filled, count)
 }

@@ -16,7 +16,7 @@ use Rattle.floating.specs.Cases.{case_of, value_of}
 use Rattle.floating.specs.declared.Reading.{Reading}
 use Rattle.floating.specs.declared.Reading.TheVariants.{Zero}
 use Rattle.spacelook.specs.declared.Array.{Array}
-use Rattle.spacelook.specs.declared.Found.TheVariants.{Read}
+use Rattle.spacelook.specs.Found.{Read}
 use Rattle.spacelook.specs.Arrays.{◌holds◌, count_of, arrays_in, no_array, row_of, numbers_in}
 use Rattle.spacelook.specs.Numbers.{word_at, number_at, readings_in, joined, all_of}
 use Rattle.spacelook.specs.Promises.{number_from, Reads, NoMore, Imager, Sounder, Told, Behind, Filling}

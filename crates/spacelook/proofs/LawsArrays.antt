@@ -22,7 +22,7 @@ pub no_field : (layout : Layout) → row_of layout 0 ≡ no_array
 unfolding row_of
 no_field layout = refl
 
-pub field_at : (layout : Layout) (field : ℕ) → 1 ≤ field → row_of layout field ≡ array_at layout (field - 1)
+pub field_at : (layout : Layout) (field : ℕ) → 1 ≤ field → row_of layout field ≡ get_or (arrays_in layout) (field - 1) no_array
 unfolding row_of array_at
 field_at layout zero h = absurd (omega arith)
 field_at layout (suc k) h =
@@ -32,6 +32,11 @@ field_at layout (suc k) h =
 pub no_more_fields : (layout : Layout) (field : ℕ) → length (arrays_in layout) < field → row_of layout field ≡ no_array
 unfolding row_of
 no_more_fields layout field h = get_or-eq_default (no_array ∷ arrays_in layout) no_array h
+
+-- an array of a layout's table
+pub next_is : (layout : Layout) {table : List Array} → table ≡ arrays_in layout → (k : ℕ) → get_or table k no_array ≡ array_at layout k
+unfolding array_at
+next_is layout e k = ap (λ (l : List Array). get_or l k no_array) e
 
 -- ---- each lies within a block
 
@@ -67,7 +72,7 @@ field_inside layout zero index h = absurd (not-suc-le-zero (subst (λ (a : Array
 field_inside layout (suc k) index h = by (leb (suc k) (length (arrays_in layout))) refl
   where
     by : (t : Bool) → leb (suc k) (length (arrays_in layout)) ≡ t → Inside (row_of layout (suc k))
-    by true e = subst Inside (sym (field_at layout (suc k) (omega arith))) (inside layout (suc k - 1) (omega (arith, leb-true (suc k) (length (arrays_in layout)) e)))
+    by true e = subst Inside (sym (field_at layout (suc k) (omega arith) ∙ next_is layout refl (suc k - 1))) (inside layout (suc k - 1) (omega (arith, leb-true (suc k) (length (arrays_in layout)) e)))
     by false e =
         let none = no_more_fields layout (suc k) (leb-false (suc k) (length (arrays_in layout)) e) in
         absurd (not-suc-le-zero (subst (λ (a : Array). index < count_of a) none h))

@@ -14,10 +14,9 @@ use Rattle.ground.proofs.LawsTests.{or_second}
 use Rattle.parity.specs.declared.Layout.{Layout}
 use Rattle.parity.specs.Words.{ground_of}
 use Rattle.floating.specs.Cases.{case_of, value_of}
-use Rattle.spacelook.specs.declared.Found.TheVariants.{Read, Refused}
-use Rattle.spacelook.specs.declared.Filled.{Filled}
+use Rattle.spacelook.specs.Found.{Read, Refused}
 use Rattle.spacelook.specs.Arrays.{count_of, row_of, size_of}
-use Rattle.spacelook.specs.Numbers.{number_at, found_of, all_of, answer_of, filled_of, front_of, numbers_after, cases_after}
+use Rattle.spacelook.specs.Numbers.{Filled, number_at, found_of, all_of, answer_of, filled_of, front_of, numbers_after, cases_after}
 
 module _ (layout : Layout) (words : List ℕ) (field index : ℕ) where
   pub refused : (ground_of words ≡ 0 → ⊥) → Refused (ground_of words) ≡ found_of layout words field index

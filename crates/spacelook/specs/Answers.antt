@@ -2,8 +2,7 @@
 -- Assumes nothing.
 use Rattle.std.specs.Prelude.{ℕ, Float}
 use Rattle.floating.specs.Cases.{case_of, no_number, value_of}
-use Rattle.spacelook.specs.declared.Found.{Found}
-use Rattle.spacelook.specs.declared.Found.TheVariants.{Read, Refused}
+use Rattle.spacelook.specs.Found.{Found, Read, Refused}
 
 abbrev pub answer_in : Found → ℕ
 answer_in (Read reading) = 0

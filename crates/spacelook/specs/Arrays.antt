@@ -4,7 +4,6 @@ use Rattle.std.specs.Prelude.{ℕ, ◌+◌, ◌*◌, ◌≤◌, List, [], ◌∷
 use Rattle.parity.specs.declared.Layout.{Layout}
 use Rattle.parity.specs.declared.Layout.TheVariants.{ImagerSpacelook, SounderSpacelook}
 use Rattle.spacelook.specs.declared.Array.{Array}
-use Rattle.spacelook.specs.declared.Size.{Size}
 
 -- `403 holds 15` is 15 numbers of four words each, the first word of them being 403, counted from 1.
 infix 70 ◌holds◌
@@ -77,5 +76,6 @@ abbrev pub numbers_in : List Array → ℕ
 numbers_in [] = 0
 numbers_in (a ∷ rest) = count_of a + numbers_in rest
 
-abbrev pub size_of : Layout → Size
+-- how many arrays a layout has, and how many numbers in them
+abbrev pub size_of : Layout → ℕ × ℕ
 size_of layout = (length (arrays_in layout), numbers_in (arrays_in layout))

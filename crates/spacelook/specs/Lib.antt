@@ -1,4 +1,5 @@
 pub mod Answers
 pub mod Arrays
+pub mod Found
 pub mod Numbers
 pub mod Promises

@@ -1,7 +1,9 @@
 -- The numbers of a spacelook block: one, by field and index, and all of them.
 -- Assumes nothing.
-use Rattle.std.specs.Prelude.{ℕ, zero, suc, ◌+◌, ◌*◌, ◌||◌, List, [], ◌∷◌, ◌++◌, map, eqb, ltb, Float, length, drop}
+use Rattle.std.specs.Prelude.{ℕ, zero, suc, ◌+◌, ◌*◌, ◌||◌, List, [], ◌∷◌, ◌++◌, map, eqb, ltb, Float, length, drop, Result, Ok, Err}
 use Rattle.ground.specs.Choice.{pick}
+use Rattle.ground.specs.declared.Refusal.{Refusal}
+use Rattle.ground.specs.Refusals.{number_of}
 use Rattle.parity.specs.declared.Layout.{Layout}
 use Rattle.parity.specs.Sections.{word}
 use Rattle.parity.specs.Words.{ground_of}
@@ -9,9 +11,7 @@ use Rattle.floating.specs.declared.Reading.{Reading}
 use Rattle.floating.specs.Floating.{reading_of}
 use Rattle.floating.specs.Cases.{case_of, value_of}
 use Rattle.spacelook.specs.declared.Array.{Array}
-use Rattle.spacelook.specs.declared.Found.{Found}
-use Rattle.spacelook.specs.declared.Found.TheVariants.{Read, Refused}
-use Rattle.spacelook.specs.declared.Filled.{Filled}
+use Rattle.spacelook.specs.Found.{Found, Read, Refused}
 use Rattle.spacelook.specs.Arrays.{first_word, count_of, arrays_in, row_of, size_of}
 
 -- two words from one on, counted from 1, and four, as a number: the first is the highest
@@ -55,11 +55,21 @@ answer_of layout words room room-for-cases =
     let small = ltb room (size_of layout).1 || ltb room-for-cases (size_of layout).1 in
     pick (eqb (ground_of words) 0) (pick small 9 0) (ground_of words)
 
+-- the answer as numbers: 0 and how many were read, or a refusal's number and 0
+pub record Filled : Type 0 where
+  pub number : ℕ
+  pub count : ℕ
+
 -- A refusal gives its number and 0, and leaves the rooms as they were.
 unfoldable pub filled_of : Layout → List ℕ → ℕ → ℕ → Filled
 filled_of layout words room room-for-cases =
     let number = answer_of layout words room room-for-cases in
     record { number = number; count = pick (eqb number 0) (size_of layout).1 0 }
+
+-- what is told of an answer
+abbrev pub told_of_all : Result ℕ Refusal → Filled
+told_of_all (Ok n) = record { number = 0; count = n }
+told_of_all (Err r) = record { number = number_of r; count = 0 }
 
 -- Accepted, the numbers stand at the front of one room and their cases at the front of the other, and nothing behind them has changed.
 abbrev pub front_of : {A : Type 0} → List A → List A → List A

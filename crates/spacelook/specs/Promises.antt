@@ -11,7 +11,7 @@ use Rattle.floating.specs.Cases.{case_of, value_of}
 use Rattle.floating.specs.declared.Reading.{Reading}
 use Rattle.floating.specs.declared.Reading.TheVariants.{Zero}
 use Rattle.spacelook.specs.declared.Array.{Array}
-use Rattle.spacelook.specs.declared.Found.TheVariants.{Read, Refused}
+use Rattle.spacelook.specs.Found.{Read, Refused}
 use Rattle.spacelook.specs.Answers.{answer_in, case_in, value_in}
 use Rattle.spacelook.specs.Arrays.{first_word, count_of, arrays_in}
 use Rattle.spacelook.specs.Numbers.{found_of, all_of, answer_of, filled_of, numbers_after, cases_after}

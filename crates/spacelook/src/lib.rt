@@ -2,42 +2,26 @@
 // right is in specs/, and the table of arrays in specs/Arrays.antt.
 #![tactic(auto)]
 
-ghost use Rattle.std.specs.Prelude.{◌≡◌, map, ◌≤◌, ◌<◌, ◌+◌, length};
+ghost use Rattle.std.specs.Prelude.{◌≡◌, map, ◌≤◌, ◌<◌, ◌+◌, length, unwrap_or};
 ghost use Rattle.std.proofs.Math.Seq.{paste};
 ghost use Rattle.parity.specs.Words.{ground_of};
 ghost use Rattle.floating.specs.Cases.{case_of, value_of};
-ghost use Rattle.spacelook.specs.Arrays.{Inside, size_of, array_at, row_of};
-ghost use Rattle.spacelook.specs.Numbers.{pair_at, word_at, found_of, readings_in, all_of, filled_of, front_of, numbers_after, cases_after};
+ghost use Rattle.spacelook.specs.Arrays.{Inside, arrays_in, size_of, no_array, row_of};
+ghost use Rattle.spacelook.specs.Found.{told};
+ghost use Rattle.spacelook.specs.Numbers.{pair_at, word_at, found_of, readings_in, all_of, told_of_all, filled_of, front_of, numbers_after, cases_after};
 
 use floating::Reading;
+use ground::Refusal;
 use parity::Layout;
-
-// What stands at a field and an index: the reading of a number, or the number of a refusal.
-#[derive(Clone, Copy)]
-pub enum Found {
-    Read(Reading),
-    Refused(u8),
-}
-
-// How many numbers were read; on a refusal its number, and 0.
-#[derive(Clone, Copy)]
-pub struct Filled {
-    pub number: u8,
-    pub count: usize,
-}
 
 // An array of numbers, four words each: its first word, counted from 1, and how many numbers it has.
 #[derive(Clone, Copy)]
 struct Array(usize, usize);
 
-// How many arrays a layout has, and how many numbers in them.
-#[derive(Clone, Copy)]
-struct Size(usize, usize);
-
 const NUMBER_WORDS: usize = 4;
 
 // The arrays of the Imager's block 1; specs/Arrays.antt has their names.
-const IMAGER: [Array; 26] = [
+const IMAGER: &[Array] = &[
     Array(403, 15),
     Array(463, 15),
     Array(523, 15),
@@ -67,7 +51,7 @@ const IMAGER: [Array; 26] = [
 ];
 
 // The arrays of the Sounder's.
-const SOUNDER: [Array; 6] = [
+const SOUNDER: &[Array] = &[
     Array(1135, 76),
     Array(1439, 76),
     Array(1743, 76),
@@ -76,44 +60,31 @@ const SOUNDER: [Array; 6] = [
     Array(2639, 72),
 ];
 
-fn size_of(layout: Layout) -> Size
-    ensures { result ≡ size_of layout }
+fn arrays_in(layout: Layout) -> &'static [Array]
+    ensures { result.now ≡ arrays_in layout }
 {
     match layout {
-        Layout::ImagerSpacelook => Size(26, 1828),
-        Layout::SounderSpacelook => Size(6, 448),
+        Layout::ImagerSpacelook => IMAGER,
+        Layout::SounderSpacelook => SOUNDER,
     }
 }
 
-// An array of a layout, counted from 0.
-fn array_at(layout: Layout, k: usize) -> Array
-    requires { k < (size_of layout).0 }
-    ensures { result ≡ array_at layout k }
+// How many numbers all arrays of a layout have.
+fn count_in(layout: Layout) -> usize
+    ensures { result ≡ (size_of layout).1 }
 {
     match layout {
-        Layout::ImagerSpacelook => {
-            let table = IMAGER;
-            table[k]
-        }
-        Layout::SounderSpacelook => {
-            let table = SOUNDER;
-            table[k]
-        }
+        Layout::ImagerSpacelook => 1828,
+        Layout::SounderSpacelook => 448,
     }
 }
 
-// A field's array, fields being counted from 1; where there is no such field, one without numbers.
-fn row_of(layout: Layout, field: u32) -> Array
-    ensures { result ≡ row_of layout field }
+// A field's array, fields being counted from 1, where there is one.
+fn row_of(layout: Layout, field: u32) -> Option<Array>
+    ensures { unwrap_or result no_array ≡ row_of layout field }
 {
-    let k = field as usize;
-    if k < 1 {
-        return Array(0, 0);
-    }
-    if size_of(layout).0 < k {
-        return Array(0, 0);
-    }
-    array_at(layout, k - 1)
+    let k = (field as usize).checked_sub(1)?;
+    arrays_in(layout).get(k).copied()
 }
 
 // Two words from one on, counted from 1, as a number: the first is the high one.
@@ -133,19 +104,18 @@ fn word_at(words: &[u16], k: usize) -> u32
 }
 
 // What stands at an index of a field, counted from 0, in a block that `parity::ground_of` accepts.
-pub fn read(layout: Layout, words: &[u16], field: u32, index: u32) -> Found
-    ensures { result ≡ found_of layout words.now field index }
+pub fn read(layout: Layout, words: &[u16], field: u32, index: u32) -> Result<Reading, Refusal>
+    ensures { told result ≡ found_of layout words.now field index }
 {
-    let number = parity::ground_of(words);
-    if number != ground::ACCEPTED {
-        return Found::Refused(number);
-    }
-    let row = row_of(layout, field);
+    parity::ground_of(words)?;
+    let Some(Array(first, count)) = row_of(layout, field) else {
+        return Err(Refusal::NoRecord);
+    };
     let k = index as usize;
-    if row.1 <= k {
-        return Found::Refused(ground::NO_RECORD);
+    if count <= k {
+        return Err(Refusal::NoRecord);
     }
-    Found::Read(floating::read(word_at(words, row.0 + NUMBER_WORDS * k)))
+    Ok(floating::read(word_at(words, first + NUMBER_WORDS * k)))
 }
 
 // The numbers of one array into the rooms from `at` on, with the case of each.
@@ -155,14 +125,11 @@ fn fill_array(words: &[u16], row: Array, numbers: &mut [f64], cases: &mut [u8], 
     ensures numbers_after { numbers.new ≡ paste numbers.old at (map value_of (readings_in words.now row)) row.1 }
     ensures cases_after { cases.new ≡ paste cases.old at (map case_of (readings_in words.now row)) row.1 }
 {
-    let first = row.0;
-    let count = row.1;
-    let mut k: usize = 0;
-    while k < count {
+    let Array(first, count) = row;
+    for k in 0..count {
         let reading = floating::read(word_at(words, first + NUMBER_WORDS * k));
         numbers[at + k] = floating::value_of(reading);
         cases[at + k] = floating::case_of(reading);
-        k += 1;
     }
 }
 
@@ -173,40 +140,33 @@ fn fill(words: &[u16], layout: Layout, numbers: &mut [f64], cases: &mut [u8])
     ensures numbers_after { numbers.new ≡ front_of (map value_of (all_of layout words.now)) numbers.old }
     ensures cases_after { cases.new ≡ front_of (map case_of (all_of layout words.now)) cases.old }
 {
-    let arrays = size_of(layout).0;
+    let arrays = arrays_in(layout);
     let mut at: usize = 0;
-    let mut k: usize = 0;
-    while k < arrays {
-        let row = array_at(layout, k);
-        fill_array(words, row, numbers, cases, at);
+    for row in arrays {
+        fill_array(words, *row, numbers, cases, at);
         at += row.1;
-        k += 1;
     }
 }
 
-fn answered(number: u8, count: usize) -> Filled
-    ensures { result ≡ record { number = number; count = count } }
-{
-    Filled { number, count }
-}
-
-// All numbers of a block, field by field, to the front of the rooms: the numbers to one, their cases to the other.
-pub fn read_all(layout: Layout, words: &[u16], numbers: &mut [f64], cases: &mut [u8]) -> Filled
-    ensures value { result ≡ filled_of layout words.now (length numbers.old) (length cases.old) }
+// All numbers of a block, field by field, to the front of the rooms: the numbers to one, their cases to the other. Answers how many.
+pub fn read_all(
+    layout: Layout,
+    words: &[u16],
+    numbers: &mut [f64],
+    cases: &mut [u8],
+) -> Result<usize, Refusal>
+    ensures value { told_of_all result ≡ filled_of layout words.now (length numbers.old) (length cases.old) }
     ensures numbers_after { numbers.new ≡ numbers_after layout words.now numbers.old (length cases.old) }
     ensures cases_after { cases.new ≡ cases_after layout words.now (length numbers.old) cases.old }
 {
-    let number = parity::ground_of(words);
-    if number != ground::ACCEPTED {
-        return answered(number, 0);
-    }
-    let count = size_of(layout).1;
+    parity::ground_of(words)?;
+    let count = count_in(layout);
     if numbers.len() < count {
-        return answered(ground::SMALL_ROOM, 0);
+        return Err(Refusal::SmallRoom);
     }
     if cases.len() < count {
-        return answered(ground::SMALL_ROOM, 0);
+        return Err(Refusal::SmallRoom);
     }
     fill(words, layout, numbers, cases);
-    answered(ground::ACCEPTED, count)
+    Ok(count)
 }

@@ -14,7 +14,7 @@ pub loop-k-init : goal.loop-k-init
 loop-k-init c =
     let a = c.args in
     let rs = readings_in a.words.now a.row in
-    (omega arith, none_laid a.numbers.now a.at (map value_of rs), none_laid a.cases.now a.at (map case_of rs))
+    (none_laid a.numbers.now a.at (map value_of rs), none_laid a.cases.now a.at (map case_of rs))
 
 pub overflow_mul-k : goal.overflow_mul-k
 overflow_mul-k c = omega (arith, c.requires.words_value.1.1)
@@ -27,12 +27,6 @@ word_at-requires c =
     let p = c.requires.words_value in
     (p.0, (omega (arith, p.1.0), omega (arith, p.1.1)))
 
-pub read-reading-requires : goal.read-reading-requires
-read-reading-requires c = tt
-
-pub value_of-requires : goal.value_of-requires
-value_of-requires c = tt
-
 pub overflow_add-numbers : goal.overflow_add-numbers
 overflow_add-numbers c = omega (arith, c.requires.row_in_bounds.0)
 
@@ -40,22 +34,13 @@ pub offset_bounds-numbers-at : goal.offset_bounds-numbers-at
 offset_bounds-numbers-at c = omega (arith, c.requires.row_in_bounds.0)
 
 pub bounds-numbers-at : goal.bounds-numbers-at
-bounds-numbers-at c = omega (arith, c.requires.row_in_bounds.0, c.loop-k.invariant.1.same)
-
-pub case_of-requires : goal.case_of-requires
-case_of-requires c = tt
+bounds-numbers-at c = omega (arith, c.requires.row_in_bounds.0, c.loop-k.invariant.0.same)
 
 pub overflow_add-cases : goal.overflow_add-cases
 overflow_add-cases c = omega (arith, c.requires.row_in_bounds.1)
 
 pub bounds-cases-at : goal.bounds-cases-at
-bounds-cases-at c = omega (arith, c.requires.row_in_bounds.1, c.loop-k.invariant.2.same)
-
-pub overflow_add-k : goal.overflow_add-k
-overflow_add-k c = omega arith
-
-pub loop-k-smaller : goal.loop-k-smaller
-loop-k-smaller c = omega arith
+bounds-cases-at c = omega (arith, c.requires.row_in_bounds.1, c.loop-k.invariant.1.same)
 
 pub loop-k-preserved : goal.loop-k-preserved
 loop-k-preserved c =
@@ -63,19 +48,18 @@ loop-k-preserved c =
     let there : l.k < c.args.row.1 = omega (arith, c.loop-k-test.true) in
     let read : c.read-reading.result ≡ number_at c.args.words.now c.args.row l.k =
     c.read-reading.ensures ∙ ap reading_of c.word_at.ensures in (
-      omega arith,
-      one_laid value_of c.args.words.now c.args.row l.invariant.1 there (omega (arith, c.requires.row_in_bounds.0)) (c.value_of.ensures ∙ ap value_of read),
-      one_laid case_of c.args.words.now c.args.row l.invariant.2 there (omega (arith, c.requires.row_in_bounds.1)) (c.case_of.ensures ∙ ap case_of read),
+      one_laid value_of c.args.words.now c.args.row l.invariant.0 there (omega (arith, c.requires.row_in_bounds.0)) (c.value_of.ensures ∙ ap value_of read),
+      one_laid case_of c.args.words.now c.args.row l.invariant.1 there (omega (arith, c.requires.row_in_bounds.1)) (c.case_of.ensures ∙ ap case_of read),
     )
 
 pub shape_of-numbers : goal.shape_of-numbers
-shape_of-numbers c = c.loop-k.invariant.1.same
+shape_of-numbers c = c.loop-k.invariant.0.same
 
 pub shape_of-cases : goal.shape_of-cases
-shape_of-cases c = c.loop-k.invariant.2.same
+shape_of-cases c = c.loop-k.invariant.1.same
 
 pub returns : goal.returns
 returns c =
     let l = c.loop-k in
     let row = c.args.row in
-    let all : l.k ≡ row.1 = omega arith in record { numbers_after = all_laid l.invariant.1 all; cases_after = all_laid l.invariant.2 all }
+    let all : l.k ≡ row.1 = omega arith in record { numbers_after = all_laid l.invariant.0 all; cases_after = all_laid l.invariant.1 all }

@@ -1,33 +1,25 @@
 -- `spacelook::row_of` meets its contract: no field 0, none behind the last, and an array for each between.
 -- Assumes nothing.
-use mathlib.Core.Path.{◌≡◌, sym, ap, ◌∙◌, subst}
-use Prim.Native.Nat.{◌<◌, ◌≤◌}
+use Rattle.std.specs.Prelude.{Option, unwrap_or}
+use mathlib.Core.Path.{◌≡◌, sym, ap, ◌∙◌}
+use Prim.Native.Nat.{◌≤◌}
 use native.Mathlib.Omega.{arith}
-use lib.ListN.{length}
-use Rattle.spacelook.specs.declared.Size.{Size}
-use Rattle.spacelook.specs.Arrays.{arrays_in, row_of}
-use Rattle.spacelook.proofs.LawsArrays.{no_field, field_at, no_more_fields}
+use lib.ListN.{get_or}
+use Rattle.spacelook.specs.declared.Array.{Array}
+use Rattle.spacelook.specs.Arrays.{no_array, row_of}
+use Rattle.spacelook.proofs.LawsArrays.{no_field, field_at}
 use Rattle.spacelook.proofs.row_of.Goals as goal
 
-pub returns-then-k-lt1 : goal.returns-then-k-lt1
-returns-then-k-lt1 c =
-    let a = c.args in
-    let e : a.field ≡ 0 = omega arith in
-    sym (ap (row_of a.layout) e ∙ no_field a.layout)
-
-pub returns-then-size_of-k : goal.returns-then-size_of-k
-returns-then-size_of-k c =
-    let a = c.args in
-    sym (no_more_fields a.layout a.field (subst (λ (s : Size). s.0 < a.field) c.size_of.ensures c.if-size_of-k.true))
-
-pub array_at-requires : goal.array_at-requires
-array_at-requires c =
-    let a = c.args in
-    let fields : a.field ≤ length (arrays_in a.layout) = subst (λ (s : Size). a.field ≤ s.0) c.size_of.ensures c.if-size_of-k.false in
-    let one : 1 ≤ a.field = c.if-k-lt1.false in
-    omega arith
+pub returns-in_err-k : goal.returns-in_err-k
+returns-in_err-k c =
+    let none : c.args.field ≡ 0 = omega (arith, c.in_err-k.ensures) in
+    ap (λ (o : Option Array). unwrap_or o no_array) c.from_residual.ensures ∙ sym (ap (row_of c.args.layout) none ∙ no_field c.args.layout)
 
 pub returns : goal.returns
 returns c =
     let a = c.args in
-    c.array_at.ensures ∙ sym (field_at a.layout a.field (omega arith))
+    let here : 1 ≤ a.field = c.in_ok-k.ensures.0 in
+    ap (λ (o : Option Array). unwrap_or o no_array) c.copied.ensures
+    ∙ c.get.ensures.lookup.4 (omega arith) no_array
+    ∙ (λ i. get_or (c.arrays_in.ensures i) (c.in_ok-k.ensures.1 i) no_array)
+    ∙ sym (field_at a.layout a.field here)
