@@ -10,14 +10,22 @@ ghost use Rattle.taking.specs.Halves.{low_bits};
 use crate::each::take_each;
 use bits::fitting::{SIX, TEN};
 
-// The eight bytes of the field from `at` on as a number, the first one highest: a group, and the bytes behind it that come with the load. They
-// are read with the first one lowest, which a compiler makes one load of, and then turned: `from_be_bytes` it takes byte by byte.
+// The eight bytes of the field from `at` on as a number, the first one highest: a group, and the bytes behind it that come with the load. For
+// a compiler this is one load and one turn; `first_chunk` and `copy_from_slice` leave tests in it, and a turn then stays out of its loop.
 fn eight_from(field: &[u8], at: usize) -> u64
     requires { at + 8 ≤ length field.now }
     ensures { bits 64 result ≡ sent (take 8 (drop at field.now)) }
 {
-    let eight: &[u8; 8] = field[at..].first_chunk().unwrap();
-    bits::turned(u64::from_le_bytes(*eight))
+    bits::turned(u64::from_le_bytes([
+        field[at],
+        field[at + 1],
+        field[at + 2],
+        field[at + 3],
+        field[at + 4],
+        field[at + 5],
+        field[at + 6],
+        field[at + 7],
+    ]))
 }
 
 // The low `size` bits of both halves of `x`.
@@ -54,13 +62,10 @@ fn put_four(x: u64, room: &mut [u16], i: usize)
     requires { i + 4 ≤ length room.old }
     ensures { room.new ≡ laid room.old i (digits 65536 4 x) }
 {
-    let words = [
-        (x % 0x1_0000) as u16,
-        ((x >> 16) % 0x1_0000) as u16,
-        ((x >> 32) % 0x1_0000) as u16,
-        ((x >> 48) % 0x1_0000) as u16,
-    ];
-    room[i..i + 4].copy_from_slice(&words);
+    room[i] = (x % 0x1_0000) as u16;
+    room[i + 1] = ((x >> 16) % 0x1_0000) as u16;
+    room[i + 2] = ((x >> 32) % 0x1_0000) as u16;
+    room[i + 3] = ((x >> 48) % 0x1_0000) as u16;
 }
 
 // Sixteen words of the field from byte `at` on, into the room from `i` on. All four groups are read before one is stored: the compiler does
