@@ -204,6 +204,12 @@ goes_on n s i w ds low h st e =
 pub cons : {x y : ℕ} {l m : List ℕ} → x ≡ y → l ≡ m → x ∷ l ≡ y ∷ m
 cons p q = ap₂ (λ (x : ℕ) (l : List ℕ). x ∷ l) p q
 
+-- a word more of those that are taken as one
+pub word_more : (ws : List ℕ) (k t : ℕ) → k < length ws → horner t (mirrors (take (suc k) ws)) ≡ joined (horner t (mirrors (take k ws))) (mirror (get_or ws k 0))
+word_more [] k t h = absurd (omega arith)
+word_more (w ∷ ws) zero t h = refl
+word_more (w ∷ ws) (suc k) t h = word_more ws k (joined t (mirror w)) (omega arith)
+
 -- ---- chunks of the string
 
 word_in : (m : ℕ) (s : List ℕ) (i j : ℕ) → j + 8 ≤ m → take 8 (drop j (take m (drop i s))) ≡ take 8 (drop (i + j) s)

@@ -130,22 +130,15 @@ fn block(bytes: &[u8; 128]) -> Window
 fn last(w: Window) -> u64
     ensures { result ≡ horner 0 (shown w) }
 {
-    let t0 = word_behind(0, w.s0.swap_bytes());
-    let t1 = word_behind(t0, w.s1.swap_bytes());
-    let t2 = word_behind(t1, w.s2.swap_bytes());
-    let t3 = word_behind(t2, w.s3.swap_bytes());
-    let t4 = word_behind(t3, w.s4.swap_bytes());
-    let t5 = word_behind(t4, w.s5.swap_bytes());
-    let t6 = word_behind(t5, w.s6.swap_bytes());
-    let t7 = word_behind(t6, w.s7.swap_bytes());
-    let t8 = word_behind(t7, w.s8.swap_bytes());
-    let t9 = word_behind(t8, w.s9.swap_bytes());
-    let t10 = word_behind(t9, w.s10.swap_bytes());
-    let t11 = word_behind(t10, w.s11.swap_bytes());
-    let t12 = word_behind(t11, w.s12.swap_bytes());
-    let t13 = word_behind(t12, w.s13.swap_bytes());
-    let t14 = word_behind(t13, w.s14.swap_bytes());
-    word_behind(t14, w.s15.swap_bytes())
+    let words = [
+        w.s0, w.s1, w.s2, w.s3, w.s4, w.s5, w.s6, w.s7, w.s8, w.s9, w.s10, w.s11, w.s12, w.s13,
+        w.s14, w.s15,
+    ];
+    let mut t = 0;
+    for word in words {
+        t = word_behind(t, word.swap_bytes());
+    }
+    t
 }
 
 // The word 15 of a window that stands for a register with all its bits set, the other words zero.
