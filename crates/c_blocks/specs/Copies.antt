@@ -2,7 +2,7 @@
 -- Assumes nothing.
 use Rattle.std.specs.Prelude.{ℕ, List, [], ◌∷◌}
 use Rattle.c_numbers.specs.Marks.{mark}
-use Rattle.block.specs.declared.Answer.{Answer}
+use Rattle.block.specs.Answers.{Answer}
 
 -- a mark for each
 abbrev pub copies_in : Answer → List ℕ

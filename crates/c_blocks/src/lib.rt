@@ -24,16 +24,26 @@ pub extern "C" fn rahmisve_read(
     ensures word_count_after { word_count.new ≡ (answer_of block.now (length room.old)).words }
     ensures room_after { room.new ≡ read.room_after block.now room.old }
 {
-    let answer = block::read(block, room);
-    let common = answer.header;
-    *header = common;
-    *copies = [
-        marked(answer.first),
-        marked(answer.second),
-        marked(answer.third),
-    ];
-    *word_count = answer.words;
-    answer.number
+    match block::read(block, room) {
+        Ok(read) => {
+            let common = read.common;
+            let common_header = common.header;
+            *header = common_header;
+            *copies = [
+                marked(common.first),
+                marked(common.second),
+                marked(common.third),
+            ];
+            *word_count = read.words;
+            ground::ACCEPTED
+        }
+        Err(refusal) => {
+            *header = [0u8; 28];
+            *copies = [0u8; 3];
+            *word_count = 0;
+            refusal.number()
+        }
+    }
 }
 
 #[unsafe(no_mangle)]
@@ -48,14 +58,26 @@ pub extern "C" fn rahmisve_plan(
 ) -> u8
     ensures { record { number = result; block = block.new; version = version.new; size = size.new; records = records.new; words = word_count.new; bytes = field_bytes.new } ≡ plan_of header.now }
 {
-    let plan = header::plan_of(header);
-    *block = plan.block;
-    *version = plan.version;
-    *size = plan.size;
-    *records = plan.records;
-    *word_count = plan.words;
-    *field_bytes = plan.bytes;
-    plan.number
+    match header::plan_of(header) {
+        Ok(plan) => {
+            *block = plan.block;
+            *version = plan.version;
+            *size = plan.size;
+            *records = plan.records;
+            *word_count = plan.words;
+            *field_bytes = plan.bytes;
+            ground::ACCEPTED
+        }
+        Err(refusal) => {
+            *block = 0;
+            *version = 0;
+            *size = 0;
+            *records = 0;
+            *word_count = 0;
+            *field_bytes = 0;
+            refusal.number()
+        }
+    }
 }
 
 #[unsafe(no_mangle)]
@@ -68,7 +90,14 @@ pub extern "C" fn rahmisve_write(
     ensures bytes_after { record { number = result; bytes = bytes.new } ≡ written_of header.now words.now (length room.old) }
     ensures room_after { room.new ≡ room_written header.now words.now room.old }
 {
-    let written = writer::write(header, words, room);
-    *bytes = written.bytes;
-    written.number
+    match writer::write(header, words, room) {
+        Ok(written) => {
+            *bytes = written;
+            ground::ACCEPTED
+        }
+        Err(refusal) => {
+            *bytes = 0;
+            refusal.number()
+        }
+    }
 }
