@@ -9,21 +9,20 @@ use lib.Dec.{T, eqb, ltb, lit<, eqb→eq}
 use borrow.Author.Tests.{eq-eqb}
 use Rattle.ground.specs.Choice.{pick}
 use Rattle.ground.proofs.LawsTests.{T-first, T-second}
-use Rattle.placement.specs.declared.Placed.{Placed}
-use Rattle.placement.specs.Placement.{group_of, held_in, records_held, place_of}
+use Rattle.placement.specs.Placement.{PlacedAnswer, group_of, held_in, records_held, place_of}
 use Rattle.placement.specs.Promises.{HeldOnce}
 use Rattle.placement.proofs.LawsBelow.{below, below_at}
 use Rattle.placement.proofs.LawsPlacement.{unknown_block, unknown_version, absent}
 use Rattle.placement.proofs.LawsRecords.{at_most_four}
 
 -- the block that holds a detector of a channel, and which of its records does
-abbrev block_for : ℕ → Placed → ℕ
+abbrev block_for : ℕ → PlacedAnswer → ℕ
 block_for v p = pick (eqb p.channel 1) ((p.detector + 3) % 8 + 3) (pick (ltb v 2) (pick (ltb p.channel 4) 2 1) (pick (ltb p.channel 4) 1 2))
 
-abbrev record_for : Placed → ℕ
+abbrev record_for : PlacedAnswer → ℕ
 record_for p = pick (eqb p.channel 1) 1 (pick (eqb p.channel 2 || eqb p.channel 4) p.detector (p.detector + 2))
 
-abbrev told : (v b k : ℕ) → Placed → Bool
+abbrev told : (v b k : ℕ) → PlacedAnswer → Bool
 told v b k p = eqb (block_for v p) b && eqb (record_for p) k
 
 abbrev tested : ℕ → ℕ → ℕ → Bool
@@ -35,8 +34,8 @@ all_tested = tt
 
 -- what a placement that is given is known by
 module _ (v b k : ℕ) (z : (place_of b v k).number ≡ 0) where
-  never : (p : Placed) → place_of b v k ≡ p → 0 < p.number → ⊥
-  never p e l = omega (arith, sym (ap (λ (q : Placed). q.number) e) ∙ z)
+  never : (p : PlacedAnswer) → place_of b v k ≡ p → 0 < p.number → ⊥
+  never p e l = omega (arith, sym (ap (λ (q : PlacedAnswer). q.number) e) ∙ z)
 
   known_block : b ≤ 11
   known_block = let f : 11 < b → ⊥ = λ l. never _ (unknown_block b v k l) (lit< tt) in omega arith

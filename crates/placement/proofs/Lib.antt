@@ -3,4 +3,3 @@ pub mod KeepsOnce
 pub mod LawsBelow
 pub mod LawsPlacement
 pub mod LawsRecords
-pub mod Rows

@@ -1,3 +1,2 @@
 pub mod Placement
 pub mod Promises
-pub mod Table

@@ -1,8 +1,10 @@
 -- The channel and the detector that version, block and record fix, and what is answered when a placement is asked for.
 -- Assumes nothing.
-use Rattle.std.specs.Prelude.{ℕ, ◌-◌, Bool, ◌||◌, List, [], ◌∷◌, map, eqb, ltb, length, get_or, take, drop}
+use Rattle.std.specs.Prelude.{ℕ, ◌-◌, Bool, ◌||◌, List, [], ◌∷◌, map, eqb, ltb, length, get_or, take, drop, Result, Ok, Err}
 use Rattle.ground.specs.Choice.{pick}
 use Rattle.ground.specs.Grounds.{◌when◌, first_of}
+use Rattle.ground.specs.declared.Refusal.{Refusal}
+use Rattle.ground.specs.Refusals.{number_of}
 use Rattle.row.specs.Rows.{last_block, last_version}
 use Rattle.placement.specs.declared.Held.{Held}
 use Rattle.placement.specs.declared.Placed.{Placed}
@@ -58,15 +60,26 @@ abbrev pub ground_of : ℕ → ℕ → ℕ → ℕ
 ground_of block version k =
     first_of ((4 when ltb last_block block) ∷ (5 when ltb last_version version) ∷ (13 when no_record block version k) ∷ [])
 
-abbrev pub accepted : Held → Placed
+-- The answer as numbers: 0, the channel and the detector, or a refusal's number and zeros.
+pub record PlacedAnswer : Type 0 where
+  pub number : ℕ
+  pub channel : ℕ
+  pub detector : ℕ
+
+abbrev pub accepted : Held → PlacedAnswer
 accepted h = record { number = 0; channel = h.0; detector = h.1 }
 
 -- A refusal returns its number; every other number in it is zero.
-abbrev pub refused_by : ℕ → Placed
+abbrev pub refused_by : ℕ → PlacedAnswer
 refused_by n = record { number = n; channel = 0; detector = 0 }
 
-unfoldable pub place_of : ℕ → ℕ → ℕ → Placed
+unfoldable pub place_of : ℕ → ℕ → ℕ → PlacedAnswer
 place_of block version k =
     pick (eqb (ground_of block version k) 0)
     (accepted (get_or (held_in block version) (k - 1) (0 det 0)))
     (refused_by (ground_of block version k))
+
+-- What is told of an answer.
+abbrev pub told : Result Placed Refusal → PlacedAnswer
+told (Ok p) = record { number = 0; channel = p.channel; detector = p.detector }
+told (Err r) = refused_by (number_of r)

@@ -1,125 +1,42 @@
-// The channel and the detector of a record of blocks 1 to 10: the placement by version of 504-02 section 3.2.1, two
-// tables of constants and a lookup in each. What is right is in specs/Placement.antt, how an entry is read in specs/Table.antt.
+// The channel and the detector of a record of blocks 1 to 10: the placement by version of 504-02 section 3.2.1, a
+// table of constants and a lookup in it. What is right is in specs/Placement.antt.
 #![tactic(auto)]
 
-ghost use Rattle.std.specs.Prelude.{◌≡◌, ◌<◌, ◌≤◌};
-ghost use Rattle.row.specs.Rows.{last_version};
-ghost use Rattle.placement.specs.Placement.{group_of, place_of, refused_by};
-ghost use Rattle.placement.specs.Table.{named_by};
+ghost use Rattle.std.specs.Prelude.{◌≡◌, length};
+ghost use Rattle.placement.specs.Placement.{held_in, told, place_of};
 
-// What a record holds; on a refusal its number, and zeros.
+use ground::Refusal;
+
+// What a record holds.
 #[derive(Clone, Copy)]
 pub struct Placed {
-    pub number: u8,
     pub channel: u8,
     pub detector: u8,
 }
 
-// Channel and detector. 0 and 0: the block has no such record.
+// Channel and detector, as the table has them.
 #[derive(Clone, Copy)]
 struct Held(u8, u8);
 
-const FIRST_INFRARED: u8 = 1;
-
-const FIRST_VISIBLE: u8 = 3;
-
-// Records that the table has room for in an infrared block.
-const MOST_RECORDS: u8 = 4;
-
-// Blocks 1 and 2 by version group. Version 3 has the eighth infrared detector, 6/2.
-const HELD: [[[Held; 4]; 2]; 3] = [
-    // Versions 0, 1.
-    [
-        [Held(4, 1), Held(4, 2), Held(5, 1), Held(5, 2)],
-        [Held(2, 1), Held(2, 2), Held(3, 1), Held(0, 0)],
-    ],
-    // Version 2.
-    [
-        [Held(2, 1), Held(2, 2), Held(3, 1), Held(3, 2)],
-        [Held(4, 1), Held(4, 2), Held(6, 1), Held(0, 0)],
-    ],
-    // Version 3.
-    [
-        [Held(2, 1), Held(2, 2), Held(3, 1), Held(3, 2)],
-        [Held(4, 1), Held(4, 2), Held(6, 1), Held(6, 2)],
-    ],
-];
-
-// Blocks 3 to 10, a record each, in every version.
-const VISIBLE: [Held; 8] = [
-    Held(1, 5),
-    Held(1, 6),
-    Held(1, 7),
-    Held(1, 8),
-    Held(1, 1),
-    Held(1, 2),
-    Held(1, 3),
-    Held(1, 4),
-];
-
-fn refused(number: u8) -> Placed
-    ensures { result ≡ refused_by number }
+// What the records of a block hold, in their order. Version 3 has the eighth infrared detector, 6/2.
+fn held_in(block: u8, version: u8) -> &'static [Held]
+    ensures { result.now ≡ held_in block version }
 {
-    Placed {
-        number,
-        channel: 0,
-        detector: 0,
-    }
-}
-
-// What an entry of a table says.
-fn named(held: Held) -> Placed
-    ensures { result ≡ named_by held }
-{
-    if held.0 == 0 {
-        return refused(ground::NO_RECORD);
-    }
-    Placed {
-        number: ground::ACCEPTED,
-        channel: held.0,
-        detector: held.1,
-    }
-}
-
-fn group_of(version: u8) -> usize
-    ensures { (result ≡ group_of version) × (result < 3) }
-{
-    match version {
-        0 | 1 => 0,
-        2 => 1,
-        _ => 2,
-    }
-}
-
-// The records of blocks 1 and 2.
-fn infrared(block: u8, version: u8, record: u8) -> Placed
-    requires { (1 ≤ block) × ((block ≤ 2) × (version ≤ last_version)) }
-    ensures { result ≡ place_of block version «record» }
-{
-    if record < 1 {
-        return refused(ground::NO_RECORD);
-    }
-    if MOST_RECORDS < record {
-        return refused(ground::NO_RECORD);
-    }
-    let group = group_of(version);
-    let b = (block - FIRST_INFRARED) as usize;
-    let k = (record - 1) as usize;
-    let table = HELD;
-    named(table[group][b][k])
-}
-
-// The one record of each of blocks 3 to 10, where the version does not enter.
-fn visible(block: u8, record: u8) -> Placed
-    requires { (3 ≤ block) × (block ≤ 10) }
-    ensures { result ≡ place_of block 0 «record» }
-{
-    if record == 1 {
-        let at = (block - FIRST_VISIBLE) as usize;
-        let table = VISIBLE;
-        named(table[at])
-    } else {
-        refused(ground::NO_RECORD)
+    match (block, version) {
+        (1, 0 | 1) => &[Held(4, 1), Held(4, 2), Held(5, 1), Held(5, 2)],
+        (1, _) => &[Held(2, 1), Held(2, 2), Held(3, 1), Held(3, 2)],
+        (2, 0 | 1) => &[Held(2, 1), Held(2, 2), Held(3, 1)],
+        (2, 2) => &[Held(4, 1), Held(4, 2), Held(6, 1)],
+        (2, _) => &[Held(4, 1), Held(4, 2), Held(6, 1), Held(6, 2)],
+        (3, _) => &[Held(1, 5)],
+        (4, _) => &[Held(1, 6)],
+        (5, _) => &[Held(1, 7)],
+        (6, _) => &[Held(1, 8)],
+        (7, _) => &[Held(1, 1)],
+        (8, _) => &[Held(1, 2)],
+        (9, _) => &[Held(1, 3)],
+        (10, _) => &[Held(1, 4)],
+        _ => &[],
     }
 }
 
@@ -132,18 +49,19 @@ fn visible(block: u8, record: u8) -> Placed
 // co-registration offset (sections 3.2.1 and 3.3.6: up to 8 lines either way) block 3 begins with another visible detector, which
 // word 184 of block 0 names. Word 4 of a record's line documentation names the detector that it came from, for infrared records as
 // the SPS numbers them, 1 to 8.
-pub fn place(block: u8, version: u8, record: u8) -> Placed
-    ensures { result ≡ place_of block version «record» }
+pub fn place(block: u8, version: u8, record: u8) -> Result<Placed, Refusal>
+    ensures { told result ≡ place_of block version «record» }
 {
     if row::LAST_BLOCK < block {
-        return refused(ground::UNKNOWN_BLOCK);
+        return Err(Refusal::UnknownBlock);
     }
     if row::LAST_VERSION < version {
-        return refused(ground::UNKNOWN_VERSION);
+        return Err(Refusal::UnknownVersion);
     }
-    match block {
-        1 | 2 => infrared(block, version, record),
-        3..=10 => visible(block, record),
-        _ => refused(ground::NO_RECORD),
+    let held = held_in(block, version);
+    if (record == 0) | (held.len() < record as usize) {
+        return Err(Refusal::NoRecord);
     }
+    let Held(channel, detector) = held[record as usize - 1];
+    Ok(Placed { channel, detector })
 }

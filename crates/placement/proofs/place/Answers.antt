@@ -1,27 +1,35 @@
--- `placement::place` meets its contract: the tests in their order, and a block that is neither infrared nor visible has no record.
+-- `placement::place` meets its contract: the tests in their order, then the place that the table has.
 -- Assumes nothing.
-use mathlib.Core.Path.{◌≡◌, sym, ◌∙◌}
-use native.Mathlib.Omega.{arith}
-use Rattle.placement.specs.Placement.{records_held}
-use Rattle.placement.proofs.KeepsPlacement.{every_version}
-use Rattle.placement.proofs.LawsPlacement.{unknown_block, unknown_version, absent}
-use Rattle.placement.proofs.LawsRecords.{no_records}
+use Prim.Native.Nat.{◌-◌}
+use mathlib.Core.Path.{sym, ap, ◌∙◌}
+use mathlib.Core.Bool.{true, false, ◌||◌}
+use mathlib.Core.List.{List}
+use lib.Dec.{eqb, ltb}
+use lib.ListN.{length, get_or}
+use Rattle.placement.specs.declared.Held.{Held}
+use Rattle.placement.specs.Placement.{◌det◌, records_held, accepted}
+use Rattle.placement.proofs.LawsPlacement.{unknown_block, unknown_version, last_test}
 use Rattle.placement.proofs.place.Goals as goal
-use Rattle.placement.proofs.place.Goals.{in_default-via-then-block-lt1, in_default-via-else-block-lt1+else-block-lt3+else-block-lt11}
 
 pub returns-then-block-gt-LAST_BLOCK : goal.returns-then-block-gt-LAST_BLOCK
-returns-then-block-gt-LAST_BLOCK c = c.refused.ensures ∙ sym (unknown_block _ _ _ c.if-block-gt-LAST_BLOCK.true)
+returns-then-block-gt-LAST_BLOCK c = sym (unknown_block _ _ _ c.if-block-gt-LAST_BLOCK.true)
 
 pub returns-then-version-gt-LAST_VERSION : goal.returns-then-version-gt-LAST_VERSION
-returns-then-version-gt-LAST_VERSION c = c.refused-then-version-gt-LAST_VERSION.ensures ∙ sym (unknown_version _ _ _ c.if-block-gt-LAST_BLOCK.false c.if-version-gt-LAST_VERSION.true)
+returns-then-version-gt-LAST_VERSION c = sym (unknown_version _ _ _ c.if-block-gt-LAST_BLOCK.false c.if-version-gt-LAST_VERSION.true)
 
-pub returns-in-3-to-10 : goal.returns-in-3-to-10
-returns-in-3-to-10 c = c.visible.ensures ∙ sym (every_version _ _ _ (omega arith) (omega arith) (omega arith))
-
-pub returns-in_default : goal.returns-in_default
-returns-in_default c =
+pub returns-then-record-held : goal.returns-then-record-held
+unfolding records_held
+returns-then-record-held c =
     let a = c.args in
-    let none : records_held a.block a.version ≡ 0 =
-    no_records a.block a.version (omega arith) (omega arith)
-    (λ l m. elim c.in_default.branch [ in_default-via-then-block-lt1 w ↦ omega arith | in_default-via-else-block-lt1+else-block-lt3+else-block-lt11 w ↦ omega arith ]) in
-    c.refused-in_default.ensures ∙ sym (absent _ _ _ (omega arith) (omega arith) (λ l m. omega arith))
+    sym
+    (last_test a.block a.version a.«record» c.if-block-gt-LAST_BLOCK.false c.if-version-gt-LAST_VERSION.false true
+    (ap (λ (held : List Held). eqb a.«record» 0 || ltb (length held) a.«record») (sym c.held_in-held.ensures) ∙ c.if-record-held.true))
+
+pub returns : goal.returns
+unfolding records_held
+returns c =
+    let a = c.args in
+    ap (λ (held : List Held). accepted (get_or held (a.«record» - 1) (0 det 0))) c.held_in-held.ensures
+    ∙ sym
+    (last_test a.block a.version a.«record» c.if-block-gt-LAST_BLOCK.false c.if-version-gt-LAST_VERSION.false false
+    (ap (λ (held : List Held). eqb a.«record» 0 || ltb (length held) a.«record») (sym c.held_in-held.ensures) ∙ c.if-record-held.false))
