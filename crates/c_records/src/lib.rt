@@ -18,10 +18,18 @@ pub extern "C" fn rahmisve_record(
 ) -> u8
     ensures { record { number = result; start = start.new; length = length.new } ≡ part_of header.now (up_to 255 «record») word_count }
 {
-    let part = records::locate(header, word_count, in_byte(record));
-    *start = part.start;
-    *length = part.length;
-    part.number
+    match records::locate(header, word_count, in_byte(record)) {
+        Ok(part) => {
+            *start = part.start;
+            *length = part.length;
+            ground::ACCEPTED
+        }
+        Err(refusal) => {
+            *start = 0;
+            *length = 0;
+            refusal.number()
+        }
+    }
 }
 
 #[unsafe(no_mangle)]
@@ -34,8 +42,16 @@ pub extern "C" fn rahmisve_place(
 ) -> u8
     ensures { record { number = result; channel = channel.new; detector = detector.new } ≡ place_of (up_to 255 block) (up_to 255 version) (up_to 255 «record») }
 {
-    let placed = placement::place(in_byte(block), in_byte(version), in_byte(record));
-    *channel = placed.channel;
-    *detector = placed.detector;
-    placed.number
+    match placement::place(in_byte(block), in_byte(version), in_byte(record)) {
+        Ok(placed) => {
+            *channel = placed.channel;
+            *detector = placed.detector;
+            ground::ACCEPTED
+        }
+        Err(refusal) => {
+            *channel = 0;
+            *detector = 0;
+            refusal.number()
+        }
+    }
 }
