@@ -6,7 +6,7 @@ use native.Mathlib.Omega.{arith}
 use mathlib.Core.Bool.{Bool, true, false, ◌&&◌}
 use mathlib.Core.List.{List, [], ◌∷◌}
 use lib.Dec.{eqb, leb}
-use Rattle.std.specs.Prelude.{Ok, Err}
+use Rattle.std.specs.Prelude.{Result, Ok, Err, is_ok}
 use lib.ListN.{length, get_or}
 use borrow.Author.Tests.{eq-eqb, ne_eqb}
 use Rattle.ground.specs.Choice.{pick}
@@ -175,6 +175,10 @@ module _ (leaps s : List ℕ) where
       by : (b : Bool) → good_tag leaps s ≡ b → (b ≡ false) × (number_of x ≡ 12)
       by true h = absurd (never_zero x (ap (λ (r : TagRead). r.number) (e ∙ reads h)))
       by false h = (refl, ap (λ (r : TagRead). r.number) (e ∙ refuses h))
+
+  pub judged : (r : Result Tag Refusal) → told_tag r ≡ read_by leaps s → is_ok r ≡ good_tag leaps s
+  judged (Ok t) e = sym (was_good t e).0
+  judged (Err x) e = sym (was_bad x e).0
 
   -- By a list that is one the tag decides; where it is none, nothing else does.
   pub by_list : good_list leaps ≡ true → read_tag leaps s ≡ read_by leaps s

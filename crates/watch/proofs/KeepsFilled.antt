@@ -13,9 +13,8 @@ use Rattle.watch_bounds.proofs.KeepsNumbers.{under}
 use Rattle.watch_bounds.proofs.LawsSets.{below_later}
 use Rattle.watch.specs.Verdicts.{kind_of, fill_of, count_of}
 use Rattle.watch.specs.Fills.{filled}
-use Rattle.watch.specs.Rules.{opening, handed}
+use Rattle.watch.specs.Rules.{Stepped, opening, handed}
 use Rattle.watch.specs.Filled.{Gains, HowMany, OneFill}
-use Rattle.watch.specs.declared.Stepped.{Stepped}
 use Rattle.watch.proofs.LawsTurn as Turns
 use Rattle.watch.proofs.LawsTurn.{Turn, refuses, strays, opens, keeps, back, late, broken, complete, turn}
 use Rattle.watch.proofs.LawsFills.{filled_gains}

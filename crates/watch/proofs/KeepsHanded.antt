@@ -25,11 +25,10 @@ use Rattle.watch_bounds.proofs.KeepsNumbers.{under}
 use Rattle.watch_bounds.proofs.LawsSets.{none_in_empty}
 use Rattle.watch.specs.Verdicts.{kind_of, fill_of, count_of}
 use Rattle.watch.specs.Fills.{is_fill, filled}
-use Rattle.watch.specs.Rules.{idle, opening}
+use Rattle.watch.specs.Rules.{Stepped, idle, opening}
 use Rattle.watch.specs.Offers.{Offer, next_of, after, is_accepted, accepted, begins}
 use Rattle.watch.specs.Promises.{BegunBy}
 use Rattle.watch.specs.Filled.{Among, fills_of, blocks_of, taken_by, first_blocks, Handed, AnyFills}
-use Rattle.watch.specs.declared.Stepped.{Stepped}
 use Rattle.watch.proofs.LawsTurn.{Turn, refuses, strays, opens, closes, keeps, back, late, broken, complete}
 use Rattle.watch.proofs.LawsOffers.{stands_at, goes_on, starts, is_taken, is_refused, is_first, not_first, not_taken, every, turn_of}
 use Rattle.watch.proofs.LawsFills.{fill_not_one, filled_gains, one_fill_more, as_it_was}

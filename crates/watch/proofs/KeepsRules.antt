@@ -25,12 +25,9 @@ use Rattle.watch_bounds.specs.Promises.{Numbers}
 use Rattle.watch_bounds.specs.declared.Watch.{Watch}
 use Rattle.watch_bounds.proofs.KeepsNumbers as Bounds
 use Rattle.watch_bounds.proofs.KeepsNumbers.{no_refusal}
-use Rattle.watch.specs.Verdicts.{number_of, kind_of}
-use Rattle.watch.specs.Rules.{idle, opening, after_closing, begin_of, following, on_idle, on_open, on_good, step_of}
+use Rattle.watch.specs.Verdicts.{Verdict, Refused, Stray, Opened, number_of, kind_of}
+use Rattle.watch.specs.Rules.{Stepped, idle, opening, after_closing, begin_of, following, on_idle, on_open, on_good, step_of}
 use Rattle.watch.specs.Promises.{Waits, Beginning, given, kind, OneOffer, Idle, Open, AcceptedOffer}
-use Rattle.watch.specs.declared.Verdict.{Verdict}
-use Rattle.watch.specs.declared.Verdict.TheVariants.{Refused, Stray, Opened}
-use Rattle.watch.specs.declared.Stepped.{Stepped}
 use Rattle.watch.proofs.LawsSteps.{begun}
 use Rattle.watch.proofs.LawsTurn as Turns
 use Rattle.watch.proofs.LawsTurn.{Turn, refuses, strays, opens, keeps, turn}

@@ -16,9 +16,8 @@ use Rattle.ground.proofs.LawsTests.{second, never}
 use Rattle.calendar.specs.Leaps.{good_list}
 use Rattle.calendar.proofs.KeepsLists.{list_is}
 use Rattle.tag.specs.Tags.{tag_of, good_tag}
-use Rattle.time.specs.Times.{time_of, between, elapsed_of}
+use Rattle.time.specs.Times.{Elapsed, time_of, between, elapsed_of}
 use Rattle.tag.specs.declared.Tag.{Tag}
-use Rattle.time.specs.declared.count.Elapsed.{Elapsed}
 use Rattle.time.proofs.LawsTimes.{at_least_zero, at_most, not_back, not_late, answer, counted}
 use Rattle.tag.proofs.KeepsTags.{good}
 use Rattle.watch_rule.specs.Rules.{last_of_scan, closing_kind}
@@ -29,10 +28,9 @@ use Rattle.watch_bounds.specs.declared.Watch.{Watch}
 use Rattle.watch_bounds.proofs.LawsBounds.{accepted_for, from_one}
 use Rattle.watch_bounds.proofs.KeepsNumbers.{sound_for}
 use Rattle.watch.specs.Verdicts.{number_of, kind_of}
-use Rattle.watch.specs.Rules.{idle, opening, keeping, step_of}
+use Rattle.watch.specs.Rules.{Stepped, idle, opening, keeping, step_of}
 use Rattle.watch.specs.Offers.{Offer, verdict_of, after, begins, OneList, offer_of, blocks_before}
 use Rattle.watch.specs.Promises.{Waits, InTime, BegunBy, Scan, AnyOffers}
-use Rattle.watch.specs.declared.Stepped.{Stepped}
 use Rattle.watch.proofs.LawsTurn.{Timely, Turn, refuses, strays, opens, closes, keeps, Why, back, late, broken, complete}
 use Rattle.watch.proofs.LawsOffers.{after_one, goes_on, starts, is_first, not_first, not_taken, every, Bound, bound_after, none_holds, one_list_split, one_list_more, turn_by, last_after}
 use Rattle.watch.proofs.KeepsRules.{by_refusal, one_offer, accepted_offer}

@@ -23,10 +23,9 @@ use Rattle.watch_bounds.proofs.LawsBounds.{accepted_for, to_ten}
 use Rattle.watch_bounds.proofs.KeepsNumbers.{under}
 use Rattle.watch.specs.Verdicts.{number_of}
 use Rattle.watch.specs.Fills.{filled}
-use Rattle.watch.specs.Rules.{idle, opening, step_of}
+use Rattle.watch.specs.Rules.{Stepped, idle, opening, step_of}
 use Rattle.watch.specs.Offers.{Offer, next_of, verdict_of, after, is_accepted, begins, none_begins, OneList}
 use Rattle.watch.specs.Promises.{BegunBy}
-use Rattle.watch.specs.declared.Stepped.{Stepped}
 use Rattle.watch.proofs.LawsFills.{filled_below}
 use Rattle.watch.proofs.LawsTurn.{Turn, refuses, strays, opens, closes, keeps, turn}
 use Rattle.watch.proofs.KeepsRules.{by_refusal}

@@ -2,9 +2,8 @@
 -- Assumes nothing.
 use Prim.Native.Nat.{ℕ}
 use Rattle.watch_bounds.specs.declared.Watch.{Watch}
-use Rattle.watch.specs.declared.Verdict.{Verdict}
-use Rattle.watch.specs.declared.Stepped.{Stepped}
-use Rattle.watch.specs.declared.Begun.{Begun}
+use Rattle.watch.specs.Verdicts.{Verdict}
+use Rattle.watch.specs.Rules.{Stepped, Begun}
 
 abbrev pub stepped : Watch → Verdict → Stepped
 stepped w v = record { next = w; verdict = v }

@@ -18,10 +18,9 @@ use Rattle.watch_rule.specs.declared.Closing.TheVariants.{ClockBack, Late, Broke
 use Rattle.watch_rule.specs.declared.Rule.{Rule}
 use Rattle.watch_bounds.specs.Bounds.{refusal_of}
 use Rattle.watch_bounds.specs.declared.Watch.{Watch}
-use Rattle.watch.specs.Rules.{opening, closing, keeping, following, on_idle, on_open, on_good, step_of}
-use Rattle.watch.specs.declared.Verdict.TheVariants.{Refused, Stray, Opened}
-use Rattle.watch.specs.declared.Stepped.{Stepped}
+use Rattle.watch.specs.Rules.{Stepped, opening, closing, keeping, following, on_idle, on_open, on_good, step_of}
 use Rattle.watch.proofs.LawsSteps.{stepped}
+use Rattle.watch.specs.Verdicts.{Refused, Stray, Opened}
 
 -- Neither back nor late.
 pub record Timely (leaps : List ℕ) (w : Watch) (t : Tag) : Type 0 where

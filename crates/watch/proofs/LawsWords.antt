@@ -19,8 +19,8 @@ use Rattle.watch_bounds.specs.Bounds.{refusal_of}
 use Rattle.watch_bounds.specs.declared.Watch.{Watch}
 use Rattle.watch.specs.Fills.{is_fill, filled}
 use Rattle.watch.specs.Rules.{expecting, opening, handed, idle, following, on_idle, on_good, step_of}
-use Rattle.watch.specs.declared.Verdict.TheVariants.{Refused, Stray, Opened, Kept, Closed}
 use Rattle.watch.proofs.LawsSteps.{stepped}
+use Rattle.watch.specs.Verdicts.{Refused, Stray, Opened, Kept, Closed}
 
 module _ (u v : ℕ) (e : is_fill u ≡ is_fill v) where
   same_set : (set b : ℕ) → filled set b u ≡ filled set b v

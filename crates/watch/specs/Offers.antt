@@ -3,9 +3,8 @@
 use Rattle.std.specs.Prelude.{◌≡◌, ℕ, zero, suc, Bool, true, not, ◌&&◌, List, [], ◌∷◌, ◌++◌, eqb}
 use Rattle.ground.specs.Choice.{pick}
 use Rattle.watch_bounds.specs.declared.Watch.{Watch}
-use Rattle.watch.specs.Verdicts.{number_of}
+use Rattle.watch.specs.Verdicts.{Verdict, number_of}
 use Rattle.watch.specs.Rules.{step_of}
-use Rattle.watch.specs.declared.Verdict.{Verdict}
 
 -- A block number, its data valid word, the bytes of its tag, and the list of leap days that is lent with them.
 pub record Offer : Type 0 where

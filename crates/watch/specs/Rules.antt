@@ -1,8 +1,10 @@
 -- What one offer does to a watch, and how a watch begins.
 -- Assumes nothing.
-use Rattle.std.specs.Prelude.{ℕ, ◌+◌, ◌^◌, ◌≤◌, ◌<◌, true, false, List, eqb, ltb, ℤ}
+use Rattle.std.specs.Prelude.{ℕ, ◌+◌, ◌^◌, ◌≤◌, ◌<◌, true, false, List, eqb, ltb, ℤ, Result, Ok, Err}
 use Rattle.std.specs.Int.Count.{ones}
 use Rattle.ground.specs.Choice.{pick}
+use Rattle.ground.specs.declared.Refusal.{Refusal}
+use Rattle.ground.specs.Refusals.{number_of}
 use Rattle.tag.specs.Tags.{zero_tag, tag_of}
 use Rattle.time.specs.Times.{between}
 use Rattle.tag.specs.declared.Tag.{Tag}
@@ -14,9 +16,20 @@ use Rattle.watch_rule.specs.declared.Rule.TheVariants.{Keeps, Closes}
 use Rattle.watch_bounds.specs.Bounds.{longest_wait, refusal_of}
 use Rattle.watch_bounds.specs.declared.Watch.{Watch}
 use Rattle.watch.specs.Fills.{filled}
-use Rattle.watch.specs.declared.Verdict.TheVariants.{Refused, Stray, Opened, Kept, Closed}
-use Rattle.watch.specs.declared.Stepped.{Stepped}
-use Rattle.watch.specs.declared.Begun.{Begun}
+use Rattle.watch.specs.declared.Stepped as code
+use Rattle.watch.specs.Verdicts.{Verdict, verdict_in, Refused, Stray, Opened, Kept, Closed}
+
+-- What a step answers, the watch after it and the verdict; and what is told of an answer: a refused record comes back as given.
+pub record Stepped : Type 0 where
+  pub next : Watch
+  pub verdict : Verdict
+
+abbrev pub step_in : code.Stepped → Stepped
+step_in s = record { next = s.next; verdict = verdict_in s.verdict }
+
+abbrev pub told_step : Watch → Result code.Stepped Refusal → Stepped
+told_step w (Ok s) = step_in s
+told_step w (Err r) = record { next = w; verdict = Refused (number_of r) }
 
 -- Idle, block and tag zero, the set empty.
 abbrev pub idle : ℕ → Watch
@@ -25,6 +38,15 @@ idle limit = record { opened = false; expected = 0; last = zero_tag; limit = lim
 -- Open: it has the block that it expects next, the last tag, and the set of fill blocks.
 abbrev pub expecting : ℕ → Tag → ℕ → ℕ → Watch
 expecting b t limit set = record { opened = true; expected = b; last = t; limit = limit; fill = set }
+
+-- What beginning answers: 0 and an idle watch, or 16 and zeros; and what is told of an answer.
+pub record Begun : Type 0 where
+  pub number : ℕ
+  pub watch : Watch
+
+abbrev pub told_begun : Result Watch Refusal → Begun
+told_begun (Ok w) = record { number = 0; watch = w }
+told_begun (Err r) = record { number = number_of r; watch = idle 0 }
 
 -- At first a watch is idle, and has a waiting limit between 0 and 3,600,000 ms; above it 16, and every part of the record zero.
 unfoldable pub begin_of : ℕ → Begun

@@ -1,9 +1,31 @@
 -- What the cases of a verdict mean: the number given, what the offer did, as a number too, and which blocks were fill.
 -- Assumes nothing.
-use Rattle.std.specs.Prelude.{ℕ}
+use Rattle.std.specs.Prelude.{ℕ, Result, Ok, Err}
+use Rattle.ground.specs.declared.Refusal.{Refusal}
+use Rattle.ground.specs.Refusals as refusals
+use Rattle.watch_rule.specs.declared.Closing.{Closing}
 use Rattle.watch_rule.specs.Rules.{closing_kind}
-use Rattle.watch.specs.declared.Verdict.{Verdict}
-use Rattle.watch.specs.declared.Verdict.TheVariants.{Refused, Stray, Opened, Kept, Closed}
+use Rattle.watch.specs.declared.Verdict as code
+use Rattle.watch.specs.declared.Verdict.TheVariants as variant
+
+-- What an offer did: a refusal has its number, a closing how the scan closed, the set of its fill blocks and how many they are.
+pub data Verdict : Type 0 where
+  Refused : ℕ → Verdict
+  Stray : Verdict
+  Opened : Verdict
+  Kept : Verdict
+  Closed : Closing → ℕ → ℕ → Verdict
+
+-- What is told of an answer.
+abbrev pub verdict_in : code.Verdict → Verdict
+verdict_in variant.Stray = Stray
+verdict_in variant.Opened = Opened
+verdict_in variant.Kept = Kept
+verdict_in (variant.Closed why fill count) = Closed why fill count
+
+abbrev pub told : Result code.Verdict Refusal → Verdict
+told (Ok v) = verdict_in v
+told (Err r) = Refused (refusals.number_of r)
 
 -- The number given: that of the refusal, or 0 for accepted.
 abbrev pub number_of : Verdict → ℕ

@@ -2,7 +2,7 @@
 // over.
 ghost use Rattle.std.specs.Prelude.{◌≡◌, true, ◌^◌, ◌≤◌, ◌<◌, length};
 ghost use Rattle.calendar.specs.Leaps.{most_leaps};
-ghost use Rattle.watch.specs.Rules.{InScan, idle, expecting, opening, handed, after_closing, closing, keeping, on_idle, on_open, on_good};
+ghost use Rattle.watch.specs.Rules.{InScan, idle, expecting, opening, handed, after_closing, closing, keeping, on_idle, on_open, on_good, step_in};
 
 use crate::{Stepped, Verdict, fill};
 use tag::Tag;
@@ -17,7 +17,7 @@ pub(crate) fn idle(limit: u32) -> Watch
         opened: false,
         expected: 0,
         last: zero,
-        limit: limit,
+        limit,
         fill: 0,
     }
 }
@@ -29,7 +29,7 @@ fn expecting(block: u8, t: Tag, limit: u32, set: u32) -> Watch
         opened: true,
         expected: block,
         last: t,
-        limit: limit,
+        limit,
         fill: set,
     }
 }
@@ -43,7 +43,7 @@ fn opening(valid: u8, t: Tag, limit: u32) -> Watch
 }
 
 fn on_idle(w: Watch, block: u8, valid: u8, t: Tag) -> Stepped
-    ensures { result ≡ on_idle w block valid t }
+    ensures { step_in result ≡ on_idle w block valid t }
 {
     if block != 0 {
         return Stepped {
@@ -53,7 +53,7 @@ fn on_idle(w: Watch, block: u8, valid: u8, t: Tag) -> Stepped
     }
     let next = opening(valid, t, w.limit);
     Stepped {
-        next: next,
+        next,
         verdict: Verdict::Opened,
     }
 }
@@ -84,17 +84,17 @@ fn after_closing(block: u8, valid: u8, t: Tag, limit: u32) -> Watch
 
 fn close(w: Watch, block: u8, valid: u8, t: Tag, why: Closing) -> Stepped
     requires { w.fill < 2 ^ 10 }
-    ensures { result ≡ closing w block valid t why }
+    ensures { step_in result ≡ closing w block valid t why }
 {
     let set = handed(w.fill, valid, why);
     let count = fill::count(set);
     let next = after_closing(block, valid, t, w.limit);
     Stepped {
-        next: next,
+        next,
         verdict: Verdict::Closed {
-            why: why,
+            why,
             fill: set,
-            count: count,
+            count,
         },
     }
 }
@@ -102,12 +102,12 @@ fn close(w: Watch, block: u8, valid: u8, t: Tag, why: Closing) -> Stepped
 // The expected block in time: the next one is expected, and the tag is kept.
 fn keep(w: Watch, valid: u8, t: Tag) -> Stepped
     requires { InScan w }
-    ensures { result ≡ keeping w valid t }
+    ensures { step_in result ≡ keeping w valid t }
 {
     let set = fill::filled(w.fill, w.expected, valid);
     let next = expecting(w.expected + 1, t, w.limit, set);
     Stepped {
-        next: next,
+        next,
         verdict: Verdict::Kept,
     }
 }
@@ -115,7 +115,7 @@ fn keep(w: Watch, valid: u8, t: Tag) -> Stepped
 // An offer d ms after the last tag.
 fn on_open(w: Watch, block: u8, valid: u8, t: Tag, d: i64) -> Stepped
     requires { InScan w }
-    ensures { result ≡ on_open w block valid t d }
+    ensures { step_in result ≡ on_open w block valid t d }
 {
     match watch_rule::rule_of(w.expected, w.limit, block, d) {
         Rule::Keeps => keep(w, valid, t),
@@ -126,7 +126,7 @@ fn on_open(w: Watch, block: u8, valid: u8, t: Tag, d: i64) -> Stepped
 // An offer of a known block with a good tag, by a list of at most 64 leap days.
 pub(crate) fn on_good(w: Watch, block: u8, valid: u8, t: Tag, leaps: &[u32]) -> Stepped
     requires { (w.opened ≡ true → InScan w) × (length leaps.now ≤ most_leaps) }
-    ensures { result ≡ on_good leaps.now w block valid t }
+    ensures { step_in result ≡ on_good leaps.now w block valid t }
 {
     if w.opened {
         let last = w.last;

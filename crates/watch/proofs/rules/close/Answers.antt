@@ -2,8 +2,8 @@
 -- Assumes nothing.
 use mathlib.Core.Path.{ap, ◌∙◌}
 use lib.Count.{ones}
-use Rattle.watch.specs.declared.Verdict.TheVariants.{Closed}
 use Rattle.watch.proofs.rules.close.Goals as goal
+use Rattle.watch.specs.Verdicts.{Closed}
 
 pub returns : goal.returns
 returns c =

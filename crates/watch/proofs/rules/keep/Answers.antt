@@ -4,9 +4,9 @@ use mathlib.Core.Path.{ap, ◌∙◌}
 use Prim.Native.Nat.{ℕ, ◌+◌}
 use Rattle.watch_bounds.specs.declared.Watch.{Watch}
 use Rattle.watch.specs.Rules.{expecting}
-use Rattle.watch.specs.declared.Verdict.TheVariants.{Kept}
 use Rattle.watch.proofs.LawsSteps.{stepped}
 use Rattle.watch.proofs.rules.keep.Goals as goal
+use Rattle.watch.specs.Verdicts.{Kept}
 
 pub filled-set-requires : goal.filled-set-requires
 filled-set-requires c = (c.requires.1, c.requires.0)

@@ -5,9 +5,9 @@ use borrow.Author.Tests.{eq-eqb, ne_eqb}
 use Rattle.ground.proofs.LawsChoice.{yes, no}
 use Rattle.watch_bounds.specs.declared.Watch.{Watch}
 use Rattle.watch.specs.Rules.{on_idle}
-use Rattle.watch.specs.declared.Verdict.TheVariants.{Opened}
 use Rattle.watch.proofs.LawsSteps.{stepped}
 use Rattle.watch.proofs.rules.on_idle.Goals as goal
+use Rattle.watch.specs.Verdicts.{Opened}
 
 pub returns-then-block-ne0 : goal.returns-then-block-ne0
 unfolding on_idle
