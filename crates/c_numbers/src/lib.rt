@@ -9,28 +9,18 @@ ghost use Rattle.c_numbers.specs.Numbers.{up_to};
 ghost use Rattle.c_numbers.specs.Marks.{mark};
 ghost use Rattle.c_numbers.specs.Version.{version};
 
-const LARGEST_BYTE: u32 = 255;
-
-const LARGEST_PAIR: u32 = 65535;
-
 // The number, or 255 where it is more.
 pub fn in_byte(n: u32) -> u8
     ensures { result ≡ up_to 255 n }
 {
-    if LARGEST_BYTE < n {
-        return LARGEST_BYTE as u8;
-    }
-    n as u8
+    u8::try_from(n).unwrap_or(u8::MAX)
 }
 
 // The number, or 65,535 where it is more.
 pub fn in_pair(n: u32) -> u16
     ensures { result ≡ up_to 65535 n }
 {
-    if LARGEST_PAIR < n {
-        return LARGEST_PAIR as u16;
-    }
-    n as u16
+    u16::try_from(n).unwrap_or(u16::MAX)
 }
 
 // A mark that C gives.
@@ -44,7 +34,7 @@ pub fn is_on(n: u32) -> bool
 pub fn marked(holds: bool) -> u8
     ensures { result ≡ mark holds }
 {
-    if holds { 1 } else { 0 }
+    u8::from(holds)
 }
 
 const VERSION: u32 = 6;

@@ -1,10 +1,8 @@
--- `c_numbers::in_byte` meets its contract: each branch knows its test.
+-- `c_numbers::in_byte` meets its contract: where the number does not fit, the largest that does.
 -- Assumes nothing.
-use Rattle.c_numbers.proofs.LawsNumbers.{over, within}
+use mathlib.Core.Path.{◌∙◌}
+use Rattle.c_numbers.proofs.LawsNumbers.{tried}
 use Rattle.c_numbers.proofs.in_byte.Goals as goal
 
-pub returns-then-n-gt-LARGEST_BYTE : goal.returns-then-n-gt-LARGEST_BYTE
-returns-then-n-gt-LARGEST_BYTE c = over 255 c.args.n c.if-n-gt-LARGEST_BYTE.true
-
 pub returns : goal.returns
-returns c = within 255 c.args.n c.if-n-gt-LARGEST_BYTE.false
+returns c = c.unwrap_or.ensures ∙ tried 255 c.args.n c.try_from.result c.try_from.ensures

@@ -1,10 +1,8 @@
--- `c_numbers::in_pair` meets its contract: each branch knows its test.
+-- `c_numbers::in_pair` meets its contract: where the number does not fit, the largest that does.
 -- Assumes nothing.
-use Rattle.c_numbers.proofs.LawsNumbers.{over, within}
+use mathlib.Core.Path.{◌∙◌}
+use Rattle.c_numbers.proofs.LawsNumbers.{tried}
 use Rattle.c_numbers.proofs.in_pair.Goals as goal
 
-pub returns-then-n-gt-LARGEST_PAIR : goal.returns-then-n-gt-LARGEST_PAIR
-returns-then-n-gt-LARGEST_PAIR c = over 65535 c.args.n c.if-n-gt-LARGEST_PAIR.true
-
 pub returns : goal.returns
-returns c = within 65535 c.args.n c.if-n-gt-LARGEST_PAIR.false
+returns c = c.unwrap_or.ensures ∙ tried 65535 c.args.n c.try_from.result c.try_from.ensures
