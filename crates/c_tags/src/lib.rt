@@ -52,10 +52,16 @@ pub extern "C" fn rahmisve_read_tag(tag: &[u8], leap_days: &[u32], time: &mut [u
     ensures value { result ≡ (read_tag leap_days.now tag.now).number }
     ensures time_after { time.new ≡ numbers_of (read_tag leap_days.now tag.now).tag }
 {
-    let found = tag::read_tag(tag, leap_days);
-    let numbers = found.tag;
-    *time = numbers_of(numbers);
-    found.number
+    match tag::read_tag(tag, leap_days) {
+        Ok(read) => {
+            *time = numbers_of(read);
+            ground::ACCEPTED
+        }
+        Err(refusal) => {
+            *time = [0; 7];
+            refusal.number()
+        }
+    }
 }
 
 #[unsafe(no_mangle)]
@@ -63,21 +69,32 @@ pub extern "C" fn rahmisve_write_tag(time: &[u32; 7], leap_days: &[u32], tag: &m
     ensures value { result ≡ (write_tag leap_days.now (tag_from 0 time.now)).number }
     ensures tag_after { tag.new ≡ (write_tag leap_days.now (tag_from 0 time.now)).bytes }
 {
-    let numbers = tag_of(
-        time[0], time[1], time[2], time[3], time[4], time[5], time[6],
-    );
-    let written = tag::write_tag(numbers, leap_days);
-    let bytes = written.bytes;
-    *tag = bytes;
-    written.number
+    let [year, day, hour, minute, second, ms, flywheel] = *time;
+    let numbers = tag_of(year, day, hour, minute, second, ms, flywheel);
+    match tag::write_tag(numbers, leap_days) {
+        Ok(bytes) => {
+            *tag = bytes;
+            ground::ACCEPTED
+        }
+        Err(refusal) => {
+            *tag = [0; 8];
+            refusal.number()
+        }
+    }
 }
 
 #[unsafe(no_mangle)]
 pub extern "C" fn rahmisve_elapsed(from: &[u8], to: &[u8], leap_days: &[u32], ms: &mut i64) -> u8
     ensures { record { number = result; ms = ms.new } ≡ elapsed_of leap_days.now from.now to.now }
 {
-    let elapsed = time::elapsed(from, to, leap_days);
-    let between = elapsed.ms;
-    *ms = between;
-    elapsed.number
+    match time::elapsed(from, to, leap_days) {
+        Ok(between) => {
+            *ms = between;
+            ground::ACCEPTED
+        }
+        Err(refusal) => {
+            *ms = 0;
+            refusal.number()
+        }
+    }
 }
