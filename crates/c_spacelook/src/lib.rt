@@ -20,7 +20,11 @@ fn tell(found: Result<Reading, Refusal>, reading: &mut u8, number: &mut f64) -> 
     ensures number_after { number.new ≡ value_in (told found) }
 {
     let (answer, case, value) = match found {
-        Ok(said) => (ground::ACCEPTED, floating::case_of(said), floating::value_of(said)),
+        Ok(said) => (
+            ground::ACCEPTED,
+            floating::case_of(said),
+            floating::value_of(said),
+        ),
         Err(refusal) => (refusal.number(), 0, 0.0),
     };
     *reading = case;

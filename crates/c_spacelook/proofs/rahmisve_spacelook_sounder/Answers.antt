@@ -5,4 +5,7 @@ use Rattle.spacelook.specs.Answers.{answer_in, case_in, value_in}
 use Rattle.c_spacelook.proofs.rahmisve_spacelook_sounder.Goals as goal
 
 pub returns : goal.returns
-returns c = record { value = c.answer_in.ensures ∙ ap answer_in c.read-found.ensures; reading_after = c.case_in.ensures ∙ ap case_in c.read-found.ensures; number_after = c.value_in.ensures ∙ ap value_in c.read-found.ensures }
+returns c =
+    let e = c.read-found.ensures in
+    let t = c.tell.ensures in
+    record { value = t.value ∙ ap answer_in e; reading_after = t.reading_after ∙ ap case_in e; number_after = t.number_after ∙ ap value_in e }
