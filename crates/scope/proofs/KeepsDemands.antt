@@ -24,7 +24,7 @@ use Rattle.header.specs.Asks.{Asks}
 use Rattle.header.proofs.LawsAsks.{asked_words}
 use Rattle.copies.proofs.LawsAgreed.{each}
 use Rattle.block.specs.Layout.{information_field}
-use Rattle.block.specs.declared.Judged.{Judged}
+use Rattle.block.specs.Answers.{Judged}
 use Rattle.block.specs.Grounds.{refusal_by}
 use Rattle.block.specs.Answers.{accepted_judged, refused_judged, judged_by, words_laid, room_by, answer_of}
 use Rattle.block.specs.Meets as reader

@@ -14,7 +14,7 @@ use Rattle.tag.specs.Digits.{digits_of, decimal, value_of}
 use Rattle.tag.specs.Tags.{tag_of, good_second, in_bounds, good_tag}
 use Rattle.tag.proofs.KeepsTags.{is_tag}
 use Rattle.time.specs.Times.{count_of, time_of, elapsed_of}
-use Rattle.time.specs.declared.count.Elapsed.{Elapsed}
+use Rattle.time.specs.Times.{Elapsed}
 use Rattle.time.proofs.LawsTimes.{answer}
 use Rattle.time.proofs.LawsYears.{quick}
 use Rattle.time.proofs.KeepsTable.{across_leap}

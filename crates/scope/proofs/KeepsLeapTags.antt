@@ -27,9 +27,9 @@ use Rattle.tag.specs.Tags.{tag_digits, tag_of, bytes_of, in_bounds, good_tag, re
 use Rattle.time.specs.Times.{time_of, between, elapsed_of}
 use Rattle.tag.specs.Promises.{LeapSecond, IsTag, Bounded}
 use Rattle.tag.specs.declared.Tag.{Tag}
-use Rattle.tag.specs.declared.TagRead.{TagRead}
-use Rattle.tag.specs.declared.TagBytes.{TagBytes}
-use Rattle.time.specs.declared.count.Elapsed.{Elapsed}
+use Rattle.tag.specs.Tags.{TagRead}
+use Rattle.tag.specs.Tags.{TagBytes}
+use Rattle.time.specs.Times.{Elapsed}
 use Rattle.tag.proofs.LawsTags.{tag, says, spells_out, good_bounds, reads, refuses, by_list, no_list}
 use Rattle.tag.proofs.LawsBounds.{facts, tests, day_below}
 use Rattle.time.proofs.LawsTimes.{answer, counted, not_counted, not_listed}

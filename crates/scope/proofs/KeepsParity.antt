@@ -17,7 +17,7 @@ use Rattle.parity.specs.Sections.{xor_of, sections_in, verdicts_on, judged_as, r
 use Rattle.parity.specs.Words.{any_large, ground_of}
 use Rattle.parity.specs.declared.Layout.{Layout}
 use Rattle.parity.specs.declared.Layout.TheVariants.{ImagerSpacelook, SounderSpacelook}
-use Rattle.parity.specs.declared.Sections.{Sections}
+use Rattle.parity.specs.Sections.{SectionsAnswer}
 use Rattle.parity.proofs.LawsSections.{accepts, refuses}
 use Rattle.parity.proofs.KeepsSections.{judged, covered}
 use Rattle.scope.specs.Notions.{FirstOf}
@@ -89,7 +89,7 @@ ground ws =
 same_number : (layout : Layout) (ws : List ℕ) → (sections_of layout ws).number ≡ ground_of ws
 unfolding sections_of
 same_number layout ws =
-    reads_number (judged_as (length (sections_in layout)) (verdicts_on layout ws)) refused_by (λ (r : Sections). r.number) refl (λ _. refl) (ground_of ws)
+    reads_number (judged_as (length (sections_in layout)) (verdicts_on layout ws)) refused_by (λ (r : SectionsAnswer). r.number) refl (λ _. refl) (ground_of ws)
 
 accepted : (layout : Layout) (ws : List ℕ) → (sections_of layout ws).number ≡ 0 → judged_as (length (sections_in layout)) (verdicts_on layout ws) ≡ sections_of layout ws
 accepted layout ws h = accepts layout ws layout refl (sym (same_number layout ws) ∙ h)
@@ -99,8 +99,8 @@ judging = record {
   ground = ground;
   number = λ layout ws. subst (FirstOf (reasons ws)) (sym (same_number layout ws)) (ground ws);
   count = λ ws h. (
-    ap (λ (r : Sections). r.count) (sym (accepted ImagerSpacelook ws h)),
-    ap (λ (r : Sections). r.count) (sym (accepted SounderSpacelook ws (same_number SounderSpacelook ws ∙ sym (same_number ImagerSpacelook ws) ∙ h))),
+    ap (λ (r : SectionsAnswer). r.count) (sym (accepted ImagerSpacelook ws h)),
+    ap (λ (r : SectionsAnswer). r.count) (sym (accepted SounderSpacelook ws (same_number SounderSpacelook ws ∙ sym (same_number ImagerSpacelook ws) ∙ h))),
   );
   refused = λ layout ws n. refuses layout ws (λ e. n (same_number layout ws ∙ e)) ∙ ap refused_by (sym (same_number layout ws));
   verdicts = judged;

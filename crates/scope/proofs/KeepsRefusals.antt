@@ -30,12 +30,12 @@ use Rattle.block.proofs.KeepsReader.{refuses_in_order, refusal_leaves}
 use Rattle.block.proofs.KeepsJudged.{judges_in_order}
 use Rattle.writer.specs.Answers.{word_grounds, write_grounds, write_refusal, refused_written, written_of}
 use Rattle.writer.proofs.KeepsWriter as writer
-use Rattle.records.specs.declared.Part.{Part}
+use Rattle.records.specs.Records.{PartAnswer}
 use Rattle.records.specs.Records.{records_of, record_grounds, part_in}
 use Rattle.records.specs.Records as records
 use Rattle.records.proofs.LawsRecords.{one_record}
 use Rattle.records.proofs.KeepsRecords as located
-use Rattle.placement.specs.declared.Placed.{Placed}
+use Rattle.placement.specs.Placement.{PlacedAnswer}
 use Rattle.placement.specs.Placement.{records_held, no_record, ground_of, refused_by, place_of}
 use Rattle.placement.proofs.KeepsPlacement.{counts}
 use Rattle.scope.specs.Notions.{Reason, FirstOf}
@@ -166,7 +166,7 @@ module _ (h : List ℕ) (k lent : ℕ) (ask : Asked h) where
 
 place_number : (b v k : ℕ) → (place_of b v k).number ≡ ground_of b v k
 unfolding place_of
-place_number b v k = reads_number _ refused_by (λ (p : Placed). p.number) refl (λ n. refl) (ground_of b v k)
+place_number b v k = reads_number _ refused_by (λ (p : PlacedAnswer). p.number) refl (λ n. refl) (ground_of b v k)
 
 place_tells : (b v k : ℕ) → AllTell ((4 when ltb 11 b) ∷ (5 when ltb 3 v) ∷ (13 when no_record b v k) ∷ []) (place_reasons b v k)
 place_tells b v k = (
@@ -216,7 +216,7 @@ refusals =
       writer = λ h ws lent f. sym (refuses _ refused_written (sym (writer.refuses_in_order h ws lent)) f);
       bytes_left = (writer.refusal_leaves).unchanged;
       records = (located.finds).empty;
-      part = λ h k ws f. ap (λ (p : Part). part_in p ws) ((located.finds).empty h k (length ws) f);
+      part = λ h k ws f. ap (λ (p : PartAnswer). part_in p ws) ((located.finds).empty h k (length ws) f);
       placement = λ b v k f. sym (refuses _ refused_by (sym (place_number b v k)) f);
       copies = reads_common.zeros;
       plan = grants_asked.zeros;

@@ -1,14 +1,68 @@
--- A contract says its outcome by equations, so that two of them are equal to the same.
+-- A contract says its outcome by equations, so that two of them are equal to the same; where it says what is told of an answer, answers of
+-- which the same is told are equal.
 -- Assumes nothing.
 use mathlib.Core.Path.{◌≡◌, refl, sym, ◌∙◌}
+use Rattle.std.specs.Prelude.{ℕ, Result}
+use Rattle.ground.specs.declared.Refusal.{Refusal}
+use Rattle.ground.specs.Refusals.{number_in}
+use Rattle.ground.proofs.LawsRefusals.{told_once}
+use Rattle.copies.specs.Copies as copies_answer
+use Rattle.header.specs.Plans as plan_answer
+use Rattle.block.specs.Answers as block_answer
+use Rattle.records.specs.Records as part_answer
+use Rattle.writer.specs.Answers as written_answer
+use Rattle.placement.specs.Placement as placed_answer
+use Rattle.parity.specs.Sections as sections_answer
+use Rattle.detectors.specs.Status as asked_answer
+use Rattle.tag.specs.Tags as tag_answer
+use Rattle.time.specs.Times as elapsed_answer
+use Rattle.watch_bounds.specs.declared.Watch.{Watch}
+use Rattle.watch.specs.declared.Stepped.{Stepped}
+use Rattle.watch.specs.declared.Verdict.{Verdict}
+use Rattle.watch.specs.declared.Verdict.TheVariants.{Stray, Opened, Kept, Closed}
+use Rattle.watch.specs.Rules as watch_answer
+use Rattle.watch.specs.Verdicts as verdict_answer
 use Rattle.scope.specs.Settled.{AllSettled}
 
 same : {A : Type 0} {a b m : A} → a ≡ m → b ≡ m → a ≡ b
 same p q = p ∙ sym q
 
+-- of a test that is passed nothing is told but 0
+tested : {x y : Result (Unit {0}) Refusal} {m : ℕ} → number_in x ≡ m → number_in y ≡ m → x ≡ y
+tested = told_once number_in (λ n. n) (λ _. tt) (λ v. refl) (λ r. refl) (λ v. refl)
+
+-- the verdict that is told of one
+verdict_of : verdict_answer.Verdict → Verdict
+verdict_of (verdict_answer.Refused n) = Stray
+verdict_of verdict_answer.Stray = Stray
+verdict_of verdict_answer.Opened = Opened
+verdict_of verdict_answer.Kept = Kept
+verdict_of (verdict_answer.Closed why fill count) = Closed why fill count
+
+is_verdict : (v : Verdict) → verdict_of (verdict_answer.verdict_in v) ≡ v
+is_verdict Stray = refl
+is_verdict Opened = refl
+is_verdict Kept = refl
+is_verdict (Closed why fill count) = refl
+
+not_refused : (v : Verdict) → verdict_answer.number_of (verdict_answer.verdict_in v) ≡ 0
+not_refused Stray = refl
+not_refused Opened = refl
+not_refused Kept = refl
+not_refused (Closed why fill count) = refl
+
+judged_once : {x y : Result Verdict Refusal} {m : verdict_answer.Verdict} → verdict_answer.told x ≡ m → verdict_answer.told y ≡ m → x ≡ y
+judged_once = told_once verdict_answer.told verdict_answer.number_of verdict_of not_refused (λ r. refl) is_verdict
+
+stepped_once : (w : Watch) {x y : Result Stepped Refusal} {m : watch_answer.Stepped} → watch_answer.told_step w x ≡ m → watch_answer.told_step w y ≡ m → x ≡ y
+stepped_once w =
+    told_once (watch_answer.told_step w) (λ s. verdict_answer.number_of s.verdict) (λ s. record { next = s.next; verdict = verdict_of s.verdict })
+    (λ s. not_refused s.verdict) (λ r. refl) (λ s i. record { next = s.next; verdict = is_verdict s.verdict i })
+
 pub settled : AllSettled
 settled =
     record {
+      ground = λ _ _ x y. (same x.allowed y.allowed, refl);
       bits = (
         λ _ _ x y. (same x.allowed y.allowed, refl),
         λ _ _ x y. (same x.allowed y.allowed, refl),
@@ -16,8 +70,8 @@ settled =
         λ _ _ x y. (same x.allowed y.allowed, refl),
         λ _ _ x y. (same x.allowed y.allowed, refl),
       );
-      taking = λ _ _ x y. (same x.allowed.0 y.allowed.0, λ i. (tt, (tt, (tt, (same x.allowed.1 y.allowed.1 i, tt)))));
-      putting = λ _ _ x y. (same x.allowed.0 y.allowed.0, λ i. (tt, (tt, (same x.allowed.1 y.allowed.1 i, tt))));
+      taking = λ _ _ x y. (tested x.allowed.0 y.allowed.0, λ i. (tt, (tt, (tt, (same x.allowed.1 y.allowed.1 i, tt)))));
+      putting = λ _ _ x y. (tested x.allowed.0 y.allowed.0, λ i. (tt, (tt, (same x.allowed.1 y.allowed.1 i, tt))));
       check_eight_is = (
         λ _ _ x y. (same x.allowed y.allowed, refl),
         λ _ _ x y. (same x.allowed y.allowed, refl),
@@ -36,27 +90,33 @@ settled =
         λ _ _ x y. (same x.allowed y.allowed, refl),
         λ _ _ x y. (same x.allowed y.allowed, refl),
       );
-      copies = λ _ _ x y. (same x.allowed y.allowed, refl);
-      header = λ _ _ x y. (same x.allowed y.allowed, refl);
+      copies = λ _ _ x y. (told_once copies_answer.told (λ a. a.number) (λ a. record { header = a.header; first = a.first; second = a.second; third = a.third }) (λ v. refl) (λ r. refl) (λ v. refl) x.allowed y.allowed, refl);
+      header = λ _ _ x y. (told_once plan_answer.told (λ a. a.number) (λ a. record { block = a.block; version = a.version; size = a.size; records = a.records; words = a.words; bytes = a.bytes }) (λ v. refl) (λ r. refl) (λ v. refl) x.allowed y.allowed, refl);
       block = (
-        λ _ _ x y. (same x.allowed.0 y.allowed.0, λ i. (tt, (tt, (same x.allowed.1 y.allowed.1 i, tt)))),
-        λ _ _ x y. (same x.allowed.0 y.allowed.0, λ i. (tt, (same x.allowed.1 y.allowed.1 i, tt))),
+        λ _ _ x y. (
+          told_once block_answer.told_by (λ a. a.number) (λ a. a.words) (λ v. refl) (λ r. refl) (λ v. refl) x.allowed.0 y.allowed.0,
+          λ i. (tt, (tt, (same x.allowed.1 y.allowed.1 i, tt))),
+        ),
+        λ _ _ x y. (
+          told_once block_answer.told (λ a. a.number) (λ a. record { common = record { header = a.header; first = a.first; second = a.second; third = a.third }; words = a.words }) (λ v. refl) (λ r. refl) (λ v. refl) x.allowed.0 y.allowed.0,
+          λ i. (tt, (same x.allowed.1 y.allowed.1 i, tt)),
+        ),
       );
       records = (
-        λ _ _ x y. (same x.allowed y.allowed, refl),
+        λ _ _ x y. (told_once part_answer.told (λ a. a.number) (λ a. record { start = a.start; length = a.length }) (λ v. refl) (λ r. refl) (λ v. refl) x.allowed y.allowed, refl),
         λ _ _ x y. (same x.allowed y.allowed, refl),
       );
-      writer = λ _ _ x y. (same x.allowed.0 y.allowed.0, λ i. (tt, (tt, (same x.allowed.1 y.allowed.1 i, tt))));
-      placement = λ _ _ x y. (same x.allowed y.allowed, refl);
+      writer = λ _ _ x y. (told_once written_answer.told (λ a. a.number) (λ a. a.bytes) (λ v. refl) (λ r. refl) (λ v. refl) x.allowed.0 y.allowed.0, λ i. (tt, (tt, (same x.allowed.1 y.allowed.1 i, tt))));
+      placement = λ _ _ x y. (told_once placed_answer.told (λ a. a.number) (λ a. record { channel = a.channel; detector = a.detector }) (λ v. refl) (λ r. refl) (λ v. refl) x.allowed y.allowed, refl);
       parity = (
         λ _ _ x y. (same x.allowed y.allowed, refl),
-        λ _ _ x y. (same x.allowed y.allowed, refl),
-        λ _ _ x y. (same x.allowed y.allowed, refl),
+        λ _ _ x y. (tested x.allowed y.allowed, refl),
+        λ _ _ x y. (told_once sections_answer.told (λ a. a.number) (λ a. record { count = a.count; holds = a.holds }) (λ v. refl) (λ r. refl) (λ v. refl) x.allowed y.allowed, refl),
       );
       detectors = (
         λ _ _ x y. (same x.allowed y.allowed, refl),
         λ _ _ x y. (same x.allowed y.allowed, refl),
-        λ _ _ x y. (same x.allowed y.allowed, refl),
+        λ _ _ x y. (told_once asked_answer.told (λ a. a.number) (λ a. a.suspect) (λ v. refl) (λ r. refl) (λ v. refl) x.allowed y.allowed, refl),
       );
       calendar = (
         λ _ _ x y. (same x.allowed y.allowed, refl),
@@ -67,13 +127,13 @@ settled =
       tag = (
         λ _ _ x y. (same x.allowed y.allowed, refl),
         λ _ _ x y. (same x.allowed y.allowed, refl),
-        λ _ _ x y. (same x.allowed y.allowed, refl),
-        λ _ _ x y. (same x.allowed y.allowed, refl),
-        λ _ _ x y. (same x.allowed y.allowed, refl),
+        λ _ _ x y. (told_once tag_answer.told_tag (λ a. a.number) (λ a. a.tag) (λ v. refl) (λ r. refl) (λ v. refl) x.allowed y.allowed, refl),
+        λ _ _ x y. (told_once tag_answer.told_tag (λ a. a.number) (λ a. a.tag) (λ v. refl) (λ r. refl) (λ v. refl) x.allowed y.allowed, refl),
+        λ _ _ x y. (told_once tag_answer.told_bytes (λ a. a.number) (λ a. a.bytes) (λ v. refl) (λ r. refl) (λ v. refl) x.allowed y.allowed, refl),
       );
       time = (
         λ _ _ x y. (same x.allowed y.allowed, refl),
-        λ _ _ x y. (same x.allowed y.allowed, refl),
+        λ _ _ x y. (told_once elapsed_answer.told (λ a. a.number) (λ a. a.ms) (λ v. refl) (λ r. refl) (λ v. refl) x.allowed y.allowed, refl),
       );
       sounder = (
         λ _ _ x y. (same x.allowed y.allowed, refl),
@@ -82,13 +142,13 @@ settled =
       watch_rule_is = λ _ _ x y. (same x.allowed y.allowed, refl);
       watch_bounds_is = (
         λ _ _ x y. (same x.allowed y.allowed, refl),
-        λ _ _ x y. (same x.allowed y.allowed, refl),
-        λ _ _ x y. (same x.allowed y.allowed, refl),
+        λ _ _ x y. (tested x.allowed y.allowed, refl),
+        λ _ _ x y. (tested x.allowed y.allowed, refl),
       );
       watch = (
-        λ _ _ x y. (same x.allowed y.allowed, refl),
-        λ _ _ x y. (same x.allowed y.allowed, refl),
-        λ _ _ x y. (same x.allowed.1 y.allowed.1, λ i. (same x.allowed.0 y.allowed.0 i, (tt, (tt, (tt, (tt, tt)))))),
+        λ _ _ x y. (told_once watch_answer.told_begun (λ a. a.number) (λ a. a.watch) (λ v. refl) (λ r. refl) (λ v. refl) x.allowed y.allowed, refl),
+        λ _ given x y. (stepped_once given.w x.allowed y.allowed, refl),
+        λ _ _ x y. (judged_once x.allowed.1 y.allowed.1, λ i. (same x.allowed.0 y.allowed.0 i, (tt, (tt, (tt, (tt, tt)))))),
       );
       recording = (
         λ _ _ x y. (same x.allowed y.allowed, refl),

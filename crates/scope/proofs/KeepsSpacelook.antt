@@ -19,8 +19,8 @@ use Rattle.floating.specs.declared.Reading.{Reading}
 use Rattle.floating.specs.Cases.{value_of}
 use Rattle.floating.proofs.KeepsFloating.{reading, covering, negating, numbered, examples}
 use Rattle.floating.proofs.KeepsOrder.{ordering}
-use Rattle.spacelook.specs.declared.Found.{Found}
-use Rattle.spacelook.specs.declared.Found.TheVariants.{Read, Refused}
+use Rattle.spacelook.specs.Found.{Found}
+use Rattle.spacelook.specs.Found.{Read, Refused}
 use Rattle.spacelook.specs.Answers.{answer_in, case_in, value_in}
 use Rattle.spacelook.specs.Arrays.{count_of, arrays_in, no_array, row_of, size_of}
 use Rattle.spacelook.specs.Numbers.{found_of, filled_of, answer_of}

@@ -1,5 +1,7 @@
 -- Every public function, and that its contract settles its outcome. Assumes nothing.
 use Rattle.std.specs.Prelude.{◌≡◌}
+use Rattle.ground.specs.contracts.Refusal.number
+use Rattle.ground.proofs.Refusal.number.Reads as number_reads
 use Rattle.bits.specs.contracts.two_bytes
 use Rattle.bits.proofs.two_bytes.Reads as two_bytes_reads
 use Rattle.bits.specs.contracts.turned
@@ -198,6 +200,7 @@ use Rattle.c_salvage.proofs.rahmisve_salvage.Reads as rahmisve_salvage_reads
 use Rattle.scope.specs.Outcomes.{Settled, SettledUpTo, offered}
 
 pub record AllSettled : Type 0 where
+  pub ground : Settled number.ended number_reads.Learnt
   pub bits : Settled two_bytes.ended two_bytes_reads.Learnt × Settled turned.ended turned_reads.Learnt
       × Settled is_bad_size.ended is_bad_size_reads.Learnt × Settled they_fit.ended they_fit_reads.Learnt
       × Settled fill_is_zero.ended fill_is_zero_reads.Learnt
