@@ -58,28 +58,28 @@ fn end(rt: &HostRuntime) {
 // A block and a version, then for each record from 0 to 5 the number, the channel and the detector.
 fn records(rt: &HostRuntime, block: u8, version: u8) {
     head(rt, block, version);
-    placed(rt, block, version, 0);
-    placed(rt, block, version, 1);
-    placed(rt, block, version, 2);
-    placed(rt, block, version, 3);
-    placed(rt, block, version, 4);
-    placed(rt, block, version, 5);
+    for record in 0..=5 {
+        placed(rt, block, version, record);
+    }
     end(rt);
 }
 
-// Blocks 0 to 12, each in versions 0 to 4.
+// A block in versions 0 to 4.
+fn versions(rt: &HostRuntime, block: u8) {
+    for version in 0..=4 {
+        records(rt, block, version);
+    }
+}
+
 fn placements(rt: &HostRuntime) {
-    for k in 0..65 {
-        records(rt, k / 5, k % 5);
+    for block in 0..=12 {
+        versions(rt, block);
     }
 }
 
 fn mark(rt: &HostRuntime, holds: bool) {
-    if holds {
-        print(rt, b" 1");
-    } else {
-        print(rt, b" 0");
-    }
+    print(rt, b" ");
+    number(rt, holds as u8);
 }
 
 fn verdicts(rt: &HostRuntime, layout: Layout, words: &[u16]) {
@@ -87,11 +87,10 @@ fn verdicts(rt: &HostRuntime, layout: Layout, words: &[u16]) {
     number(rt, s.number);
     print(rt, b" ");
     number(rt, s.count);
-    let holds = s.holds;
-    mark(rt, holds[0]);
-    mark(rt, holds[1]);
-    mark(rt, holds[2]);
-    mark(rt, holds[3]);
+    let sections = s.holds;
+    for &holds in &sections {
+        mark(rt, holds);
+    }
     end(rt);
 }
 

@@ -43,10 +43,9 @@ fn check_of_digits(rt: &HostRuntime) {
 fn four_words(rt: &HostRuntime, field: &[u8], size: u8) {
     let mut room = [0u16; 4];
     let answer = taking::take_words(field, size, 4, &mut room);
-    word(rt, room[0]);
-    word(rt, room[1]);
-    word(rt, room[2]);
-    word(rt, room[3]);
+    for &w in &room {
+        word(rt, w);
+    }
     answered(rt, answer);
     end_line(rt);
 }
@@ -56,11 +55,9 @@ fn five_bytes(rt: &HostRuntime) {
     let words = [1u16, 2, 3, 4];
     let mut field = [255u8; 5];
     let answer = putting::put_words(&words, 10, &mut field);
-    byte(rt, field[0]);
-    byte(rt, field[1]);
-    byte(rt, field[2]);
-    byte(rt, field[3]);
-    byte(rt, field[4]);
+    for &b in &field {
+        byte(rt, b);
+    }
     answered(rt, answer);
     end_line(rt);
 }
