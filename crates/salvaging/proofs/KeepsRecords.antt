@@ -29,9 +29,8 @@ use Rattle.made.specs.Made.{made, makes}
 use Rattle.made.specs.Promises.{MakesBlock}
 use Rattle.made.proofs.LawsMade.{made_so, made_equal}
 use Rattle.made.proofs.KeepsMade.{makes_exactly, made_bytes}
-use Rattle.salvaging.specs.declared.Salvaged.{Salvaged}
 use Rattle.salvaging.specs.Pieces.{copy_of, start_from, Piece, block, span, pieces_of, field_by, fields_of, recording_of, differs, changed_by, report_of, words_over}
-use Rattle.salvaging.specs.Answers.{bytes_for, numbers_for, small_rooms, no_block, refusal_of, refused_salvaged, done_salvaged, salvaged_of, ahead, recording_after, report_after, scratch_after}
+use Rattle.salvaging.specs.Answers.{SalvageAnswer, bytes_for, numbers_for, small_rooms, no_block, refusal_of, refused_salvaged, done_salvaged, salvaged_of, ahead, recording_after, report_after, scratch_after}
 use Rattle.salvaging.specs.Promises.{FirstCopy, Right, Stands, Kept, Each, Records, Changes, TooSmall, NoBlock, RefusesExactly}
 use Rattle.salvaging.proofs.LawsSearch.{start_none, start_found}
 use Rattle.salvaging.proofs.KeepsSearch.{no_start, first_copy, searched}
@@ -134,7 +133,7 @@ changes k rest =
 
 number_is : (input : List ℕ) (m r w : ℕ) → (salvaged_of input m r w).number ≡ refusal_of input m r w
 unfolding salvaged_of
-number_is input m r w = reads_number (done_salvaged input) refused_salvaged (λ (s : Salvaged). s.number) refl (λ n. refl) (refusal_of input m r w)
+number_is input m r w = reads_number (done_salvaged input) refused_salvaged (λ (s : SalvageAnswer). s.number) refl (λ n. refl) (refusal_of input m r w)
 
 -- what the two tests say
 small_is : (n m r w : ℕ) → (small_rooms n m r w ≡ true) ↔ TooSmall n m r w

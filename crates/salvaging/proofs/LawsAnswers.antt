@@ -12,9 +12,8 @@ use Rattle.ground.proofs.LawsChoice.{yes, no}
 use Rattle.ground.proofs.LawsTests.{neither}
 use Rattle.ground.proofs.LawsGrounds.{accepts, refuses}
 use Rattle.row.specs.Promises.{most_words}
-use Rattle.salvaging.specs.declared.Salvaged.{Salvaged}
 use Rattle.salvaging.specs.Pieces.{start_from, pieces_of, recording_of, report_of, words_over}
-use Rattle.salvaging.specs.Answers.{bytes_for, numbers_for, small_rooms, refusal_of, refused_salvaged, done_salvaged, salvaged_of, ahead, recording_after, report_after, scratch_after}
+use Rattle.salvaging.specs.Answers.{SalvageAnswer, bytes_for, numbers_for, small_rooms, refusal_of, refused_salvaged, done_salvaged, salvaged_of, ahead, recording_after, report_after, scratch_after}
 use Rattle.salvaging.proofs.SalvageTurns.{Done}
 
 -- what the test of the rooms shows
@@ -33,7 +32,7 @@ module _ (input recording report scratch : List ℕ) where
   abbrev n : ℕ
   n = refusal_of input (length recording) (length report) (length scratch)
 
-  pub record Ends (r : Salvaged) (recording' report' scratch' : List ℕ) : Type 0 where
+  pub record Ends (r : SalvageAnswer) (recording' report' scratch' : List ℕ) : Type 0 where
     pub answer : r ≡ salvaged_of input (length recording) (length report) (length scratch)
     pub recorded : recording' ≡ recording_after input recording (length report) (length scratch)
     pub reported : report' ≡ report_after input (length recording) report (length scratch)
@@ -59,7 +58,7 @@ module _ (input recording report scratch : List ℕ) where
       unfolding refusal_of
       none_found h = refused_with (sym (no _ e f (yes _ refl (ap not (le-ltb (start_from 0 input) (length input) h)) refl))) (λ z. omega arith)
 
-      pub all_done : start_from 0 input < length input → {recording' report' scratch' : List ℕ} {r : Salvaged} → Done input recording recording' report report' scratch scratch' r
+      pub all_done : start_from 0 input < length input → {recording' report' scratch' : List ℕ} {r : SalvageAnswer} → Done input recording recording' report report' scratch scratch' r
           → Ends r recording' report' scratch'
       unfolding refusal_of salvaged_of recording_after report_after scratch_after
       all_done h d =

@@ -1,18 +1,18 @@
 -- Numbers stored in a row are laid; a span's entry is its piece's; copies are compared where they lie.
 -- Assumes nothing.
-use Prim.Native.Nat.{ℕ, ◌+◌, ◌-◌, ◌*◌, ◌≤◌, ◌<◌}
+use Prim.Native.Nat.{ℕ, ◌+◌, ◌-◌, ◌≤◌, ◌<◌}
 use mathlib.Core.Path.{◌≡◌, refl, sym, ap, ◌∙◌}
-use mathlib.Core.Bool.{Bool, true, false}
+use mathlib.Core.Bool.{Bool, true, false, ◌&&◌}
 use mathlib.Core.List.{List, [], ◌∷◌}
 use native.Mathlib.Omega.{arith}
-use lib.ListN.{length, get_or, set}
-use lib.Seq.{get_or-take, get_or-drop}
-use lib.ListN.{drop}
+use lib.Dec.{eqb}
+use lib.ListN.{length, set}
+use lib.Pointwise.{pointwise}
 use borrow.Author.Tests.{lt-ltb, le-ltb}
 use Rattle.ground.proofs.LawsChoice.{yes, no}
 use Rattle.room.specs.Laid.{laid}
 use Rattle.room.proofs.LawsLaid.{laid_set, laid_snoc}
-use Rattle.copies.specs.Copies.{copy_length, copy_at, same_as}
+use Rattle.copies.specs.Copies.{copy_at, same_as}
 use Rattle.salvaging.specs.Pieces.{span, gap, span_entry, differs}
 
 pub laid_three : (r : List ℕ) (w a b c : ℕ) → w + 3 ≤ length r → set (set (set r w a) (w + 1) b) (w + 2) c ≡ laid r w (a ∷ b ∷ c ∷ [])
@@ -38,9 +38,13 @@ module _ (from to : ℕ) where
   unfolding span_entry
   entry_none h = sym (no {x = []} _ refl (le-ltb from to h) refl)
 
--- a byte of a copy, where it lies
-pub copy_byte : (k i : ℕ) (rest : List ℕ) → i < copy_length → get_or (copy_at k rest) i 0 ≡ get_or rest (k * copy_length + i) 0
-copy_byte k i rest h = get_or-take copy_length (drop (k * copy_length) rest) i 0 h ∙ get_or-drop (k * copy_length) rest i 0
+-- the library's comparison of two slices
+pub slices_same : (xs ys : List ℕ) → pointwise eqb xs ys ≡ same_as xs ys
+unfolding same_as
+slices_same [] [] = refl
+slices_same [] (y ∷ ys) = refl
+slices_same (x ∷ xs) [] = refl
+slices_same (x ∷ xs) (y ∷ ys) = ap (λ (t : Bool). eqb x y && t) (slices_same xs ys)
 
 module _ (one k : ℕ) (rest : List ℕ) {t : Bool} (e : t ≡ same_as (copy_at one rest) (copy_at k rest)) where
   pub same_0 : t ≡ true → 0 ≡ differs one k rest

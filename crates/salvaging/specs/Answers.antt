@@ -1,8 +1,10 @@
 -- What a salvage answers, and what it leaves in what is lent.
 -- Assumes nothing.
-use Rattle.std.specs.Prelude.{ℕ, ◌+◌, ◌*◌, ◌/◌, Bool, not, ◌||◌, List, [], ◌∷◌, ◌++◌, eqb, ltb, length, drop}
+use Rattle.std.specs.Prelude.{ℕ, ◌+◌, ◌*◌, ◌/◌, Bool, not, ◌||◌, List, [], ◌∷◌, ◌++◌, eqb, ltb, length, drop, Result, Ok, Err}
 use Rattle.ground.specs.Choice.{pick}
 use Rattle.ground.specs.Grounds.{Ground, ◌when◌, first_of}
+use Rattle.ground.specs.declared.Refusal.{Refusal}
+use Rattle.ground.specs.Refusals.{number_of}
 use Rattle.row.specs.Promises.{most_words}
 use Rattle.salvaging.specs.declared.Salvaged.{Salvaged}
 use Rattle.salvaging.specs.Pieces.{start_from, pieces_of, fields_of, recording_of, report_of, words_over}
@@ -33,11 +35,18 @@ grounds_of input recording report scratch = (9 when small_rooms (length input) r
 unfoldable pub refusal_of : List ℕ → (recording report scratch : ℕ) → ℕ
 refusal_of input recording report scratch = first_of (grounds_of input recording report scratch)
 
+-- the answer as numbers: 0 and the counts, or a refusal's number and zeros
+pub record SalvageAnswer : Type 0 where
+  pub number : ℕ
+  pub bytes : ℕ
+  pub entries : ℕ
+  pub blocks : ℕ
+
 -- every count in a refusal is zero
-abbrev pub refused_salvaged : ℕ → Salvaged
+abbrev pub refused_salvaged : ℕ → SalvageAnswer
 refused_salvaged n = record { number = n; bytes = 0; entries = 0; blocks = 0 }
 
-abbrev pub done_salvaged : List ℕ → Salvaged
+abbrev pub done_salvaged : List ℕ → SalvageAnswer
 done_salvaged input =
     record {
       number = 0;
@@ -46,8 +55,13 @@ done_salvaged input =
       blocks = length (fields_of input (pieces_of input));
     }
 
-unfoldable pub salvaged_of : List ℕ → (recording report scratch : ℕ) → Salvaged
+unfoldable pub salvaged_of : List ℕ → (recording report scratch : ℕ) → SalvageAnswer
 salvaged_of input m r w = pick (eqb (refusal_of input m r w) 0) (done_salvaged input) (refused_salvaged (refusal_of input m r w))
+
+-- what is told of an answer
+abbrev pub told : Result Salvaged Refusal → SalvageAnswer
+told (Ok s) = record { number = 0; bytes = s.bytes; entries = s.entries; blocks = s.blocks }
+told (Err r) = refused_salvaged (number_of r)
 
 -- acceptance puts what it makes at the front of the room, and changes nothing behind it; a refusal leaves the room as it was
 abbrev pub ahead : (new room : List ℕ) → List ℕ

@@ -1,11 +1,12 @@
 -- An input as pieces in order, the blocks that are found in it and the spans that are skipped; and what is made of the pieces.
 -- Assumes nothing.
-use Rattle.std.specs.Prelude.{ℕ, zero, suc, ◌+◌, ◌-◌, ◌*◌, ◌<◌, ◌≤◌, ◌≡◌, List, [], ◌∷◌, ◌++◌, ltb, length, drop}
+use Rattle.std.specs.Prelude.{ℕ, zero, suc, ◌+◌, ◌-◌, ◌*◌, ◌<◌, ◌≡◌, List, [], ◌∷◌, ◌++◌, ltb, length, drop, Option, Some, None}
 use Rattle.ground.specs.Choice.{pick}
 use Rattle.copies.specs.Copies.{copy_at, same_as}
 use Rattle.block.specs.Answers.{room_after}
 use Rattle.recording.specs.Fields.{Field, joined}
 use Rattle.made.specs.Made.{length_by, made, makes}
+use Rattle.salvaging.specs.declared.search.Hit.{Hit}
 
 -- ---- the search
 
@@ -95,9 +96,13 @@ words_over input (span s n ∷ ps) scratch = words_over input ps scratch
 
 pub record Found (input : List ℕ) (from start copy bytes : ℕ) : Type 0 where
   pub at : start ≡ start_from from input
-  pub none : length input ≤ start → bytes ≡ 0
-  pub which : start < length input → copy ≡ copy_of (drop start input)
-  pub long : start < length input → bytes ≡ length_by copy (drop start input)
+  pub inside : start < length input
+  pub which : copy ≡ copy_of (drop start input)
+  pub long : bytes ≡ length_by copy (drop start input)
+
+abbrev pub Finds : List ℕ → ℕ → Option Hit → Type 0
+Finds input from (Some h) = Found input from h.start h.copy h.bytes
+Finds input from None = start_from from input ≡ length input
 
 -- and leaves in the scratch words
 abbrev pub scratch_at : ℕ → List ℕ → List ℕ → List ℕ

@@ -2,9 +2,12 @@
 // specs/Promises.antt.
 #![tactic(auto)]
 
-ghost use Rattle.std.specs.Prelude.{◌≡◌, ◌<◌, length};
-ghost use Rattle.salvaging.specs.Answers.{small_rooms, refused_salvaged, salvaged_of, recording_after, report_after, scratch_after};
+ghost use Rattle.std.specs.Prelude.{◌≡◌, ◌<◌, ◌≤◌, length};
+ghost use Rattle.copies.specs.Copies.{copies_length, copy_at};
+ghost use Rattle.salvaging.specs.Answers.{small_rooms, told, salvaged_of, recording_after, report_after, scratch_after};
 
+use copies::COPY_BYTES;
+use ground::Refusal;
 use row::MOST_WORDS;
 
 mod notes;
@@ -20,25 +23,21 @@ pub const ENTRY_NUMBERS: usize = 3;
 // What is found in a span; of a block it is the sum of 1, 2 and 4 for the first, second and third copy that changed.
 pub const SPAN: usize = 8;
 
-// What a salvage gives with number 0: the bytes of the recording, the entries of the report, and how many of these are blocks; or a
-// refusal's number and zeros.
-#[derive(Clone, Copy)]
+// What a salvage gives: the bytes of the recording, the entries of the report, and how many of these are blocks.
+#[derive(Clone, Copy, Debug, PartialEq, Eq)]
 pub struct Salvaged {
-    pub number: u8,
     pub bytes: usize,
     pub entries: usize,
     pub blocks: usize,
 }
 
-fn refused(number: u8) -> Salvaged
-    ensures { result ≡ refused_salvaged number }
+// The thirty bytes of a copy, from 0.
+fn copy_at(rest: &[u8], copy: usize) -> &[u8]
+    requires { (copy < 3) × (copies_length ≤ length rest.now) }
+    ensures { result.now ≡ copy_at copy rest.now }
 {
-    Salvaged {
-        number: number,
-        bytes: 0,
-        entries: 0,
-        blocks: 0,
-    }
+    let start = copy * COPY_BYTES;
+    &rest[start..start + COPY_BYTES]
 }
 
 // Whether an input of so many bytes could need more room than is lent.
@@ -59,44 +58,37 @@ pub fn salvage(
     recording: &mut [u8],
     report: &mut [usize],
     scratch: &mut [u16],
-) -> Salvaged
-    ensures value { result ≡ salvaged_of input.now (length recording.old) (length report.old) (length scratch.old) }
+) -> Result<Salvaged, Refusal>
+    ensures value { told result ≡ salvaged_of input.now (length recording.old) (length report.old) (length scratch.old) }
     ensures recording_after { recording.new ≡ recording_after input.now recording.old (length report.old) (length scratch.old) }
     ensures report_after { report.new ≡ report_after input.now (length recording.old) report.old (length scratch.old) }
     ensures scratch_after { scratch.new ≡ scratch_after input.now (length recording.old) (length report.old) scratch.old }
 {
     if small_rooms(input.len(), recording.len(), report.len(), scratch.len()) {
-        return refused(ground::SMALL_ROOM);
+        return Err(Refusal::SmallRoom);
     }
-    let first = search::find(input, 0, scratch);
-    let mut start = first.start;
-    let mut copy = first.copy;
-    let mut bytes = first.bytes;
-    if bytes == 0 {
-        return refused(ground::NO_BLOCK);
-    }
+    let Some(first) = search::find(input, 0, scratch) else {
+        return Err(Refusal::NoBlock);
+    };
+    let mut next = Some(first);
     let mut from: usize = 0;
     let mut end: usize = 0;
     let mut entries: usize = 0;
     let mut blocks: usize = 0;
-    while bytes != 0 {
-        let rest = &input[start..];
-        let span = notes::put_span(report, entries, from, start);
-        let changed = notes::changed(rest, copy);
-        entries = notes::put(report, span, start, bytes, changed);
-        end = writes::put_block(rest, copy, bytes, recording, end);
+    while let Some(hit) = next {
+        let rest = &input[hit.start..];
+        let span = notes::put_span(report, entries, from, hit.start);
+        let changed = notes::changed(rest, hit.copy);
+        entries = notes::put(report, span, hit.start, hit.bytes, changed);
+        end = writes::put_block(rest, hit.copy, hit.bytes, recording, end);
         blocks += 1;
-        from = start + bytes;
-        let next = search::find(input, from, scratch);
-        start = next.start;
-        copy = next.copy;
-        bytes = next.bytes;
+        from = hit.start + hit.bytes;
+        next = search::find(input, from, scratch);
     }
-    entries = notes::put_span(report, entries, from, start);
-    Salvaged {
-        number: ground::ACCEPTED,
+    entries = notes::put_span(report, entries, from, input.len());
+    Ok(Salvaged {
         bytes: end,
-        entries: entries,
-        blocks: blocks,
-    }
+        entries,
+        blocks,
+    })
 }

@@ -1,11 +1,10 @@
 // The report: an entry for each block and each span, three numbers each.
 ghost use Rattle.std.specs.Prelude.{◌≡◌, [], ◌∷◌, ◌+◌, ◌*◌, ◌<◌, ◌≤◌, length};
 ghost use Rattle.room.specs.Laid.{laid};
-ghost use Rattle.copies.specs.Copies.{copies_length, copy_at, same_as};
+ghost use Rattle.copies.specs.Copies.{copies_length};
 ghost use Rattle.salvaging.specs.Pieces.{gap, span_entry, differs, changed_by};
 
-use crate::{ENTRY_NUMBERS, SPAN};
-use copies::COPY_BYTES;
+use crate::{ENTRY_NUMBERS, SPAN, copy_at};
 
 // An entry behind so many; how many there are then.
 pub(crate) fn put(
@@ -38,27 +37,13 @@ pub(crate) fn put_span(report: &mut [usize], entries: usize, from: usize, to: us
     entries
 }
 
-fn same(rest: &[u8], one: usize, other: usize) -> bool
-    requires { (one < 3) × (other < 3) × (copies_length ≤ length rest.now) }
-    ensures { result ≡ same_as (copy_at one rest.now) (copy_at other rest.now) }
-{
-    let mut i: usize = 0;
-    while i < COPY_BYTES {
-        if rest[one * COPY_BYTES + i] != rest[other * COPY_BYTES + i] {
-            return false;
-        }
-        i += 1;
-    }
-    true
-}
-
 // 1 where a copy's bytes are not those of the copy that is used, else 0.
 fn differs(rest: &[u8], one: usize, copy: usize) -> usize
     requires { (one < 3) × (copy < 3) × (copies_length ≤ length rest.now) }
     ensures value { result ≡ differs one copy rest.now }
     ensures upper_bound { result ≤ 1 }
 {
-    if same(rest, one, copy) {
+    if copy_at(rest, one) == copy_at(rest, copy) {
         return 0;
     }
     1

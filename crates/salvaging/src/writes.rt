@@ -6,6 +6,7 @@ ghost use Rattle.made.specs.Made.{length_by};
 ghost use Rattle.salvaging.specs.Pieces.{field_by};
 ghost use Rattle.recording.specs.Fields.{written};
 
+use crate::copy_at;
 use copies::{COPIES_BYTES, COPY_BYTES};
 use recording::FRONT;
 
@@ -15,8 +16,7 @@ fn put_copy(rest: &[u8], copy: usize, recording: &mut [u8], at: usize)
     requires copy_length_in_bounds { at + copy_length ≤ length recording.old }
     ensures { recording.new ≡ laid recording.old at (copy_at copy rest.now) }
 {
-    let start = copy * COPY_BYTES;
-    room::lay(&rest[start..start + COPY_BYTES], recording, at);
+    room::lay(copy_at(rest, copy), recording, at);
 }
 
 // The block that a copy makes, three times that copy and what lies behind the three places, from `at` on; where it ends.
