@@ -15,9 +15,7 @@ use Rattle.watch_bounds.specs.declared.Watch.{Watch}
 use Rattle.watch_bounds.proofs.LawsBounds.{accepted_for, to_ten}
 use Rattle.watch.specs.Fills.{filled}
 use Rattle.watch.specs.Offers.{Offer, after}
-use Rattle.watch.specs.Rules.{idle, expecting, step_of}
-use Rattle.watch.specs.declared.Begun.{Begun}
-use Rattle.watch.specs.declared.Stepped.{Stepped}
+use Rattle.watch.specs.Rules.{Begun, Stepped, idle, expecting, step_of}
 use Rattle.watch.proofs.KeepsRules.{beginning}
 use Rattle.watch.proofs.LawsTurn.{Turn, refuses, strays, opens, closes, keeps, turn}
 use Rattle.c_watch.specs.Watches.{watch_in, numbers_of_watch, row_after, row_begun}

@@ -3,10 +3,8 @@
 use Rattle.std.specs.Prelude.{ℕ, Bool, true, false, not, List, [], ◌∷◌, ◌++◌, eqb, get_or}
 use Rattle.ground.specs.Choice.{pick}
 use Rattle.watch_bounds.specs.declared.Watch.{Watch}
-use Rattle.watch.specs.declared.Verdict.{Verdict}
-use Rattle.watch.specs.declared.Verdict.TheVariants.{Refused, Stray, Opened, Kept, Closed}
-use Rattle.watch.specs.declared.Stepped.{Stepped}
-use Rattle.watch.specs.declared.Begun.{Begun}
+use Rattle.watch.specs.Verdicts.{Verdict, Refused, Stray, Opened, Kept, Closed}
+use Rattle.watch.specs.Rules.{Stepped, Begun}
 use Rattle.c_numbers.specs.Numbers.{up_to}
 use Rattle.c_numbers.specs.Marks.{mark}
 use Rattle.c_tags.specs.Times.{tag_from, numbers_of}

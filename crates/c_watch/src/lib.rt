@@ -4,7 +4,7 @@
 
 ghost use Rattle.std.specs.Prelude.{◌≡◌};
 ghost use Rattle.watch_rule.specs.Rules.{closing_kind};
-ghost use Rattle.watch.specs.Verdicts.{number_of, kind_of, fill_of, count_of};
+ghost use Rattle.watch.specs.Verdicts.{verdict_in, number_of, kind_of, fill_of, count_of};
 ghost use Rattle.watch.specs.Rules.{begin_of, step_of};
 ghost use Rattle.c_numbers.specs.Numbers.{up_to};
 ghost use Rattle.c_watch.specs.Watches.{watch_in, numbers_of_watch, leaves, row_after, row_begun};
@@ -77,85 +77,31 @@ fn closing_code(why: Closing) -> u8
 }
 
 fn code_of(verdict: Verdict) -> u8
-    ensures { result ≡ kind_of verdict }
+    ensures { result ≡ kind_of (verdict_in verdict) }
 {
     match verdict {
-        Verdict::Refused(_) => REFUSED,
         Verdict::Stray => STRAY,
         Verdict::Opened => OPENED,
         Verdict::Kept => KEPT,
-        Verdict::Closed {
-            why,
-            fill: _,
-            count: _,
-        } => closing_code(why),
-    }
-}
-
-fn number_of(verdict: Verdict) -> u8
-    ensures { result ≡ number_of verdict }
-{
-    match verdict {
-        Verdict::Refused(number) => number,
-        Verdict::Stray => ground::ACCEPTED,
-        Verdict::Opened => ground::ACCEPTED,
-        Verdict::Kept => ground::ACCEPTED,
-        Verdict::Closed {
-            why: _,
-            fill: _,
-            count: _,
-        } => ground::ACCEPTED,
+        Verdict::Closed { why, .. } => closing_code(why),
     }
 }
 
 // The set of fill blocks that a closing hands over, and how many they are.
-fn fill_of(verdict: Verdict) -> u32
-    ensures { result ≡ fill_of verdict }
+fn handed(verdict: Verdict) -> (u32, u32)
+    ensures { (result.0 ≡ fill_of (verdict_in verdict)) × (result.1 ≡ count_of (verdict_in verdict)) }
 {
     match verdict {
-        Verdict::Refused(_) => 0,
-        Verdict::Stray => 0,
-        Verdict::Opened => 0,
-        Verdict::Kept => 0,
-        Verdict::Closed {
-            why: _,
-            fill,
-            count: _,
-        } => fill,
-    }
-}
-
-fn count_of(verdict: Verdict) -> u32
-    ensures { result ≡ count_of verdict }
-{
-    match verdict {
-        Verdict::Refused(_) => 0,
-        Verdict::Stray => 0,
-        Verdict::Opened => 0,
-        Verdict::Kept => 0,
-        Verdict::Closed {
-            why: _,
-            fill: _,
-            count,
-        } => count,
+        Verdict::Closed { fill, count, .. } => (fill, count),
+        _ => (0, 0),
     }
 }
 
 // Whether the record comes back as it was given.
 fn leaves(verdict: Verdict) -> bool
-    ensures { result ≡ leaves verdict }
+    ensures { result ≡ leaves (verdict_in verdict) }
 {
-    match verdict {
-        Verdict::Refused(_) => true,
-        Verdict::Stray => true,
-        Verdict::Opened => false,
-        Verdict::Kept => false,
-        Verdict::Closed {
-            why: _,
-            fill: _,
-            count: _,
-        } => false,
-    }
+    matches!(verdict, Verdict::Stray)
 }
 
 // The watch is stored into by a call that changes it, and by no other: a host may keep it where a refusal or a stray must not write.
@@ -164,13 +110,13 @@ pub extern "C" fn rahmisve_watch_begin(limit: u32, watch: &mut [u32; 11]) -> u8
     ensures value { result ≡ (begin_of limit).number }
     ensures watch_after { watch.new ≡ row_begun (begin_of limit) watch.old }
 {
-    let begun = watch::begin(limit);
-    if begun.number != ground::ACCEPTED {
-        return begun.number;
+    match watch::begin(limit) {
+        Ok(fresh) => {
+            *watch = row_of(fresh);
+            ground::ACCEPTED
+        }
+        Err(refusal) => refusal.number(),
     }
-    let fresh = begun.watch;
-    *watch = row_of(fresh);
-    begun.number
 }
 
 #[unsafe(no_mangle)]
@@ -191,22 +137,31 @@ pub extern "C" fn rahmisve_watch_offer(
     ensures watch_after { watch.new ≡ row_after (step_of leap_days.now (watch_in watch.old) (up_to 255 block) (up_to 255 valid) tag.now) watch.old }
 {
     let row = *watch;
-    let stepped = watch::step(
+    let answer = watch::step(
         watch_in(row),
         in_byte(block),
         in_byte(valid),
         tag,
         leap_days,
     );
-    let did = stepped.verdict;
-    let number = number_of(did);
-    *verdict = code_of(did);
-    *fill = fill_of(did);
-    *count = count_of(did);
-    if leaves(did) {
-        return number;
+    match answer {
+        Ok(stepped) => {
+            let did = stepped.verdict;
+            let (set, many) = handed(did);
+            *verdict = code_of(did);
+            *fill = set;
+            *count = many;
+            if leaves(did) {
+                return ground::ACCEPTED;
+            }
+            *watch = row_of(stepped.next);
+            ground::ACCEPTED
+        }
+        Err(refusal) => {
+            *verdict = REFUSED;
+            *fill = 0;
+            *count = 0;
+            refusal.number()
+        }
     }
-    let next = stepped.next;
-    *watch = row_of(next);
-    number
 }
