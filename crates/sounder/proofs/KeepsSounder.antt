@@ -20,20 +20,16 @@ use Rattle.calendar.proofs.KeepsLists.{is_list, list_is}
 use Rattle.tag.specs.Tags.{read_by, read_tag, zero_tag}
 use Rattle.detectors.specs.Status as Detectors
 use Rattle.detectors.specs.Promises.{Inside}
-use Rattle.detectors.specs.declared.Asked as Detected
 use Rattle.detectors.proofs.KeepsDetectors as Kept
 use Rattle.sounder.specs.Words.{status_in, tag_words}
-use Rattle.sounder.specs.Judging.{bare, refusal_of, accepted_as, refused_as, status_of, asked_of}
+use Rattle.sounder.specs.Judging.{Refusal, StatusAnswer, Asked, bare, refusal_of, accepted_as, refused_as, status_of, asked_of}
 use Rattle.sounder.specs.Promises.{status, Lowest, Plain, SpareZero, Numbers, Says, Judging, Asking}
-use Rattle.sounder.specs.declared.Refusal.{Refusal}
-use Rattle.sounder.specs.declared.Status.{Status}
-use Rattle.sounder.specs.declared.Asked.{Asked}
 use Rattle.sounder.proofs.LawsWords.{part_long}
 use Rattle.sounder.proofs.LawsJudging.{bad_words, spare_set, field_out, bad_list, none, by_tests, words_taken, list_taken}
 use Rattle.sounder.proofs.KeepsFrame.{framing}
 
 -- an answer of the detectors, as one of the block
-abbrev as_asked : Detected.Asked → Asked
+abbrev as_asked : Detectors.Asked → Asked
 as_asked a = record { number = a.number; word = 0; suspect = a.suspect }
 
 module _ (leaps words : List ℕ) where
@@ -54,13 +50,13 @@ module _ (leaps words : List ℕ) where
   number_is = by (eqb why.number 0) refl
     where
       by : (t : Bool) → eqb why.number 0 ≡ t → (status_of leaps words).number ≡ why.number
-      by true e = let z = eqb-true why.number 0 e in ap (λ (s : Status). s.number) (accepted_status z) ∙ sym z
-      by false e = ap (λ (s : Status). s.number) (refused_status (eqb-false why.number 0 e))
+      by true e = let z = eqb-true why.number 0 e in ap (λ (s : StatusAnswer). s.number) (accepted_status z) ∙ sym z
+      by false e = ap (λ (s : StatusAnswer). s.number) (refused_status (eqb-false why.number 0 e))
 
   refused_for : (r : Refusal) → r ≡ why → (r.number ≡ 0 → ⊥) → ((status_of leaps words).number ≡ r.number) × ((status_of leaps words).word ≡ r.word)
   refused_for r e n =
       let s = refused_status (λ z. n (ap (λ (x : Refusal). x.number) e ∙ z)) ∙ ap refused_as (sym e) in
-      (ap (λ (x : Status). x.number) s, ap (λ (x : Status). x.word) s)
+      (ap (λ (x : StatusAnswer). x.number) s, ap (λ (x : StatusAnswer). x.word) s)
 
   -- ---- the numbers
 
@@ -100,7 +96,7 @@ module _ (leaps words : List ℕ) where
         refused_for (bare 19) (bad_list leaps words (plain p) (spare p s) ((framing.none words).0 n) (no_list b)) (λ z. omega arith);
     accepted = λ p s n l.
         let e = accepted_status (ap (λ (r : Refusal). r.number) (sym (none leaps words (plain p) (spare p s) ((framing.none words).0 n) (list_is leaps l)))) in
-        (ap (λ (x : Status). x.number) e, ap (λ (x : Status). x.word) e);
+        (ap (λ (x : StatusAnswer). x.number) e, ap (λ (x : StatusAnswer). x.word) e);
   }
 
   -- ---- the word
@@ -119,10 +115,10 @@ module _ (leaps words : List ℕ) where
     where
       by : (t : Bool) → eqb why.number 0 ≡ t → (status_of leaps words).word ≡ why.word
       by true e =
-          ap (λ (s : Status). s.word) (accepted_status (eqb-true why.number 0 e))
+          ap (λ (s : StatusAnswer). s.word) (accepted_status (eqb-true why.number 0 e))
           ∙ by_tests leaps words (λ r. r.number ≡ 0 → 0 ≡ r.word) (λ _ _. refl) (λ _ _. refl) (λ _ _ z. absurd (omega arith)) (λ _ _. refl) (λ _ _ _. refl)
           (eqb-true why.number 0 e)
-      by false e = ap (λ (s : Status). s.word) (refused_status (eqb-false why.number 0 e))
+      by false e = ap (λ (s : StatusAnswer). s.word) (refused_status (eqb-false why.number 0 e))
 
   word : (status_of leaps words).number ≡ 22 → Lowest words (status_of leaps words).word
   word h =
@@ -151,13 +147,13 @@ module _ (leaps words : List ℕ) where
     says =
         let e = accepted_status taken in
         record {
-          suspects = ap (λ (s : Status). s.suspects) e;
-          first = ap (λ (s : Status). s.first) e;
-          raw = ap (λ (s : Status). s.raw) e;
-          blocks = ap (λ (s : Status). s.blocks) e;
-          frame = ap (λ (s : Status). s.frame) e;
+          suspects = ap (λ (s : StatusAnswer). s.suspects) e;
+          first = ap (λ (s : StatusAnswer). s.first) e;
+          raw = ap (λ (s : StatusAnswer). s.raw) e;
+          blocks = ap (λ (s : StatusAnswer). s.blocks) e;
+          frame = ap (λ (s : StatusAnswer). s.frame) e;
           tags =
-              ap (λ (s : Status). s.tags) e
+              ap (λ (s : StatusAnswer). s.tags) e
               ∙ (λ i. map (λ k. read_so (tag_words k words) i) (0 ∷ 1 ∷ 2 ∷ 3 ∷ 4 ∷ 5 ∷ 6 ∷ 7 ∷ 8 ∷ 9 ∷ 10 ∷ 11 ∷ 12 ∷ 13 ∷ 14 ∷ []));
         }
 

@@ -1,11 +1,12 @@
 -- The search of the table for the first field that is out of its range: what is left of the table decides.
 -- Assumes nothing.
-use mathlib.Core.Path.{◌≡◌, refl, sym, ap, ◌∙◌}
+use mathlib.Core.Path.{◌≡◌, refl, sym, ap, ◌∙◌, subst}
 use mathlib.Core.Bool.{Bool, true, false}
 use mathlib.Core.List.{List}
-use Prim.Native.Nat.{ℕ, suc, ◌+◌, ◌≤◌, ◌<◌}
+use Prim.Native.Nat.{ℕ, zero, suc, ◌+◌, ◌≤◌, ◌<◌}
 use native.Mathlib.Numerals.{add-one}
 use native.Mathlib.Omega.{arith}
+use lib.Dec.{lit<}
 use lib.ListN.{get_or, drop, drop_of_length-le}
 use lib.Seq.{drop-cons}
 use Rattle.ground.specs.Choice.{pick}
@@ -40,6 +41,20 @@ module _ {frame : List ℕ} {i : ℕ} (l : Looking frame i) where
             ap (λ (n : ℕ). first_from (drop n frame_fields) n frame) (add-one i)
             ∙ ap (λ (t : Bool). pick t (first_word (range_at i)) (first_from (drop (suc i) frame_fields) (suc i) frame)) (sym e) ∙ here h;
       }
+
+  -- no field begins at 0
+  pub named : {w : ℕ} → i < 7 → w ≡ first_word (range_at i) → 0 < w
+  named {w} h e = subst (λ (n : ℕ). 0 < n) (sym e) (each i h)
+    where
+      each : (k : ℕ) → k < 7 → 0 < first_word (range_at k)
+      each zero h = lit< tt
+      each (suc zero) h = lit< tt
+      each (suc (suc zero)) h = lit< tt
+      each (suc (suc (suc zero))) h = lit< tt
+      each (suc (suc (suc (suc zero)))) h = lit< tt
+      each (suc (suc (suc (suc (suc zero))))) h = lit< tt
+      each (suc (suc (suc (suc (suc (suc zero)))))) h = lit< tt
+      each (suc (suc (suc (suc (suc (suc (suc k))))))) h = absurd (omega arith)
 
   pub finish : 7 ≤ i → 0 ≡ first_out frame
   unfolding first_from

@@ -1,5 +1,6 @@
 -- What the definition of a refusal comes to at each test, where those before it did not hold.
 -- Assumes nothing.
+use Rattle.std.specs.Prelude.{Result, Ok, Err, IsErrAnd}
 use mathlib.Core.Path.{◌≡◌, refl, sym, ap, ◌∙◌, subst}
 use mathlib.Core.Bool.{Bool, true, false}
 use mathlib.Core.List.{List}
@@ -12,8 +13,13 @@ use Rattle.calendar.specs.Leaps.{good_list}
 use Rattle.detectors.specs.Status.{spare_zero}
 use Rattle.sounder.specs.Words.{status_in}
 use Rattle.sounder.specs.Frame.{frame_of, first_out}
-use Rattle.sounder.specs.Judging.{bare, refusal_of}
-use Rattle.sounder.specs.declared.Refusal.{Refusal}
+use Rattle.sounder.specs.declared.Fault.{Fault}
+use Rattle.sounder.specs.Judging.{Refusal, bare, refusal_of}
+
+-- what the exit of a `?` returns
+pub passed_on : {T : Type 0} {f : Fault} (r : Result T Fault) → IsErrAnd r (λ y. y ≡ f) → r ≡ Err f
+passed_on (Ok x) h = absurd h
+passed_on (Err y) h = ap Err h
 
 module _ (leaps words : List ℕ) where
   pub bad_words : {n : ℕ} → n ≡ ground_of words → (n ≡ 0 → ⊥) → bare n ≡ refusal_of leaps words

@@ -1,17 +1,14 @@
 -- What is promised of a Sounder documentation block, with any list of leap days: each place, bound and number printed as Table 3-10 and the scope
 -- have them. The proofs are in proofs/KeepsFrame.antt and proofs/KeepsSounder.antt.
 -- Assumes nothing.
-use Rattle.std.specs.Prelude.{ℕ, ◌+◌, ◌-◌, ◌*◌, ◌≤◌, ◌<◌, ◌≡◌, ◌⊎◌, ◌↔◌, true, false, List, [], ◌∷◌, length, get_or, take, drop, replicate}
+use Rattle.std.specs.Prelude.{ℕ, ◌+◌, ◌-◌, ◌*◌, ◌≤◌, ◌<◌, ◌≡◌, ◌⊎◌, ◌↔◌, true, false, List, [], ◌∷◌, length, get_or, take, drop, replicate, None}
 use Rattle.bits.specs.Bits.{sent}
 use Rattle.calendar.specs.Promises.{IsList}
-use Rattle.tag.specs.Tags.{read_tag, zero_tag}
-use Rattle.tag.specs.declared.TagRead.{TagRead}
+use Rattle.tag.specs.Tags.{TagRead, read_tag, zero_tag}
 use Rattle.detectors.specs.Status.{suspects_of}
 use Rattle.detectors.specs.Promises.{Inside}
-use Rattle.detectors.specs.declared.First.TheVariants.{Nobody}
 use Rattle.sounder.specs.Frame.{frame_of, first_out}
-use Rattle.sounder.specs.Judging.{status_of, asked_of}
-use Rattle.sounder.specs.declared.Status.{Status}
+use Rattle.sounder.specs.Judging.{StatusAnswer, status_of, asked_of}
 
 -- the number of words k and k + 1, which count from 1, the high one first; and the ten words of the status
 abbrev pub two : ℕ → List ℕ → ℕ
@@ -78,7 +75,7 @@ abbrev pub read_at : List ℕ → List ℕ → ℕ → TagRead
 read_at leaps words k = read_tag leaps (take 8 (drop (k - 1) words))
 
 -- What a block says that is not refused.
-pub record Says (leaps words : List ℕ) (s : Status) : Type 0 where
+pub record Says (leaps words : List ℕ) (s : StatusAnswer) : Type 0 where
   pub suspects : s.suspects ≡ (suspects_of (status words)).count
   pub first : s.first ≡ (suspects_of (status words)).first
   pub raw : s.raw ≡ two 43 words
@@ -99,7 +96,7 @@ pub record Judging : Type 0 where
         number = (status_of leaps words).number;
         word = (status_of leaps words).word;
         suspects = 0;
-        first = Nobody;
+        first = None;
         raw = 0;
         blocks = 0;
         frame = replicate 7 0;

@@ -2,8 +2,7 @@
 -- Assumes nothing.
 use Rattle.std.specs.Prelude.{ℕ, ◌+◌, ◌*◌, ◌<◌, List, [], ◌∷◌, map, get_or}
 use Rattle.parity.specs.Sections.{word, words_from}
-use Rattle.tag.specs.Tags.{read_by}
-use Rattle.tag.specs.declared.TagRead.{TagRead}
+use Rattle.tag.specs.Tags.{TagRead, read_by}
 
 -- every word is below 256
 abbrev pub Small : List ℕ → Type 0

@@ -2,42 +2,41 @@
 // the fields of the frame against their ranges, and fifteen time tags. What is right is in specs/, what is promised in specs/Promises.antt.
 #![tactic(auto)]
 
-ghost use Rattle.std.specs.Prelude.{◌≡◌};
-ghost use Rattle.parity.specs.Words.{ground_of};
-ghost use Rattle.sounder.specs.Judging.{no_tags, refusal_of, accepted_as, refused_as, status_of, asked_of};
+ghost use Rattle.std.specs.Prelude.{◌≡◌, Ok, IfOk};
+ghost use Rattle.sounder.specs.Judging.{fault_in, told_status, told_asked, refusal_of, accepted_as, status_of, asked_of};
 
-use detectors::First;
-use tag::TagRead;
+use detectors::Detector;
+use ground::Refusal;
+use tag::Tag;
+use words::Block;
 
 mod frame; // the frame fields and their ranges
 mod words; // words as bytes, as numbers and as tags
 
-// What such a block says. On a refusal its number; with 22 the first word of the frame field; and zeros.
-#[derive(Clone, Copy)]
+// What such a block says. A bad tag among its tags is a refusal of that one alone.
+#[derive(Clone, Copy, Debug, PartialEq, Eq)]
 pub struct Status {
-    pub number: u8,
-    pub word: u16,
     pub suspects: u32,
-    pub first: First,
+    pub first: Option<Detector>,
     pub raw: u16,
     pub blocks: u16,
     pub frame: [u16; 7],
-    pub tags: [TagRead; 15],
+    pub tags: [Result<Tag, Refusal>; 15],
 }
 
-// Whether a detector is suspect; on a refusal the same number and word, and false.
-#[derive(Clone, Copy)]
-pub struct Asked {
-    pub number: u8,
+// Why a block is refused, with the first word of the frame field that 22 names, and 0 with every other refusal.
+#[derive(Clone, Copy, Debug, PartialEq, Eq)]
+pub struct Fault {
+    pub why: Refusal,
     pub word: u16,
-    pub suspect: bool,
 }
 
-// Why a block is refused, with the word that 22 names.
-#[derive(Clone, Copy)]
-struct Refusal {
-    number: u8,
-    word: u16,
+impl From<Refusal> for Fault {
+    ghost from_gives = { λ why fault. fault ≡ record { why = why; word = 0 } };
+
+    fn from(why: Refusal) -> Fault {
+        Fault { why, word: 0 }
+    }
 }
 
 // The first words of the counts.
@@ -45,115 +44,54 @@ const RAW_BLOCKS: usize = 43;
 
 const BLOCKS: usize = 45;
 
-fn for_number(number: u8) -> Refusal
-    ensures { result ≡ record { number = number; word = 0 } }
-{
-    Refusal {
-        number: number,
-        word: 0,
-    }
-}
-
 // Tests 8, 14, 21, 22, 19, in this order.
-fn why_refused(words: &[u16], leaps: &[u32]) -> Refusal
-    ensures { result ≡ refusal_of leaps.now words.now }
+fn tested<'a>(words: &'a [u16], leaps: &[u32]) -> Result<Block<'a>, Fault>
+    ensures why { fault_in result ≡ refusal_of leaps.now words.now }
+    ensures same { IfOk result (λ block. block.words.now ≡ words.now) }
 {
-    let number = parity::ground_of(words);
-    if number != ground::ACCEPTED {
-        return for_number(number);
+    parity::ground_of(words)?;
+    let block = Block { words };
+    if !detectors::spare_is_zero(block.status()) {
+        return Err(Fault::from(Refusal::SpareBit));
     }
-    if !detectors::spare_is_zero(words::status_in(words)) {
-        return for_number(ground::SPARE_BIT);
-    }
-    let word = frame::first_out(frame::frame_of(words));
-    if word != 0 {
-        return Refusal {
-            number: ground::OUT_OF_RANGE,
-            word: word,
-        };
+    if let Some(word) = frame::first_out(frame::frame_of(block)) {
+        return Err(Fault {
+            why: Refusal::OutOfRange,
+            word,
+        });
     }
     if !calendar::is_good_list(leaps) {
-        return for_number(ground::BAD_LEAP_DAYS);
+        return Err(Fault::from(Refusal::BadLeapDays));
     }
-    for_number(ground::ACCEPTED)
+    Ok(block)
 }
 
-// The tags of a refusal.
-fn no_tags() -> [TagRead; 15]
-    ensures { result ≡ no_tags }
+fn accepted(block: Block<'_>, leaps: &[u32]) -> Status
+    ensures { told_status (Ok result) ≡ accepted_as leaps.now block.entry.words.now }
 {
-    let tag = tag::zero_tag();
-    let none = TagRead {
-        number: ground::ACCEPTED,
-        tag: tag,
-    };
-    [none; 15]
-}
-
-fn refused(why: Refusal) -> Status
-    ensures { result ≡ refused_as why }
-{
-    let frame = [0u16; 7];
-    let tags = no_tags();
+    let found = detectors::suspects_of(block.status());
     Status {
-        number: why.number,
-        word: why.word,
-        suspects: 0,
-        first: First::Nobody,
-        raw: 0,
-        blocks: 0,
-        frame: frame,
-        tags: tags,
-    }
-}
-
-fn accepted(words: &[u16], leaps: &[u32]) -> Status
-    requires { ground_of words.now ≡ 0 }
-    ensures { result ≡ accepted_as leaps.now words.now }
-{
-    let found = detectors::suspects_of(words::status_in(words));
-    let first = found.first;
-    let frame = frame::frame_of(words);
-    let tags = words::tags_of(words, leaps);
-    Status {
-        number: ground::ACCEPTED,
-        word: 0,
         suspects: found.count,
-        first: first,
-        raw: words::number_at(words, RAW_BLOCKS),
-        blocks: words::number_at(words, BLOCKS),
-        frame: frame,
-        tags: tags,
+        first: found.first,
+        raw: block.number_at(RAW_BLOCKS),
+        blocks: block.number_at(BLOCKS),
+        frame: frame::frame_of(block),
+        tags: block.tags(leaps),
     }
 }
 
 // Judges a block by a list of leap days.
-pub fn judge(words: &[u16], leaps: &[u32]) -> Status
-    ensures { result ≡ status_of leaps.now words.now }
+pub fn judge(words: &[u16], leaps: &[u32]) -> Result<Status, Fault>
+    ensures { told_status result ≡ status_of leaps.now words.now }
 {
-    let why = why_refused(words, leaps);
-    if why.number != ground::ACCEPTED {
-        return refused(why);
-    }
-    accepted(words, leaps)
+    let block = tested(words, leaps)?;
+    Ok(accepted(block, leaps))
 }
 
 // Judges a block and asks for one detector, any: 13, where there is none such, comes last.
-pub fn ask(words: &[u16], leaps: &[u32], channel: u32, detector: u32) -> Asked
-    ensures { result ≡ asked_of leaps.now words.now channel detector }
+pub fn ask(words: &[u16], leaps: &[u32], channel: u32, detector: u32) -> Result<bool, Fault>
+    ensures { told_asked result ≡ asked_of leaps.now words.now channel detector }
 {
-    let why = why_refused(words, leaps);
-    if why.number != ground::ACCEPTED {
-        return Asked {
-            number: why.number,
-            word: why.word,
-            suspect: false,
-        };
-    }
-    let asked = detectors::ask(words::status_in(words), channel, detector);
-    Asked {
-        number: asked.number,
-        word: 0,
-        suspect: asked.suspect,
-    }
+    let block = tested(words, leaps)?;
+    Ok(detectors::ask(block.status(), channel, detector)?)
 }

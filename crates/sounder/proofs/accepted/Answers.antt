@@ -6,7 +6,7 @@ use Rattle.sounder.proofs.accepted.Goals as goal
 
 pub returns : goal.returns
 returns c =
-    let same = c.suspects_of-found.ensures ∙ ap suspects_of c.status_in.ensures in
+    let same = c.suspects_of-found.ensures ∙ ap suspects_of c.status.ensures in
     λ i.
     record {
       number = 0;
@@ -15,6 +15,6 @@ returns c =
       first = (same i).first;
       raw = c.number_at.ensures i;
       blocks = c.number_at-2.ensures i;
-      frame = c.frame_of-frame.ensures i;
-      tags = c.tags_of-tags.ensures i;
+      frame = c.frame_of.ensures i;
+      tags = c.tags.ensures i;
     }

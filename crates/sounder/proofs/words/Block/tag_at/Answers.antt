@@ -1,4 +1,4 @@
--- `sounder::words::tag_at` meets its contract: the eight words are there, and are bytes.
+-- `sounder::words::Block::tag_at` meets its contract: the eight words are there, and are bytes.
 -- Assumes nothing.
 use mathlib.Core.Path.{◌≡◌, ap, ap₂, ◌∙◌}
 use Prim.Native.Nat.{ℕ, ◌+◌, ◌-◌, ◌*◌, ◌≤◌}
@@ -7,23 +7,23 @@ use lib.ListN.{take, drop}
 use Rattle.parity.proofs.LawsWords.{right_length, small_words}
 use Rattle.tag.specs.Tags.{read_by}
 use Rattle.sounder.proofs.LawsWords.{part_long, part_small}
-use Rattle.sounder.proofs.words.tag_at.Goals as goal
+use Rattle.sounder.proofs.words.Block.tag_at.Goals as goal
 
 pub slice_bounds-lower-end : goal.slice_bounds-lower-end
-slice_bounds-lower-end c = omega (arith, right_length c.args.words.now c.requires.0)
+slice_bounds-lower-end c = omega (arith, right_length c.args.self.words.now c.args.self.plain)
 
 pub lower-requires : goal.lower-requires
 lower-requires c =
-    let words = c.args.words.now in
+    let words = c.args.self.words.now in
     let from = 58 + 8 * c.args.k in
-    let long = right_length words c.requires.0 in
+    let long = right_length words c.args.self.plain in
     let fits : from + (from + 8 - from) ≤ 8040 = omega arith in
-    (part_long words from (from + 8 - from) (omega arith) ∙ omega arith, part_small words from (from + 8 - from) (small_words words c.requires.0))
+    (part_long words from (from + 8 - from) (omega arith) ∙ omega arith, part_small words from (from + 8 - from) (small_words words c.args.self.plain))
 
 pub returns : goal.returns
 returns c =
     let k = c.args.k in
-    let words = c.args.words.now in
+    let words = c.args.self.words.now in
     let long : 58 + 8 * k + 8 - (58 + 8 * k) ≡ 66 + 8 * k + 1 - (59 + 8 * k) = omega arith in
     let from : 58 + 8 * k ≡ 59 + 8 * k - 1 = omega arith in
     c.read_by.ensures
