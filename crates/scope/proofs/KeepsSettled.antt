@@ -1,11 +1,14 @@
 -- A contract says its outcome by equations, so that two of them are equal to the same; where it says what is told of an answer, answers of
 -- which the same is told are equal.
 -- Assumes nothing.
-use mathlib.Core.Path.{◌≡◌, refl, sym, ◌∙◌}
-use Rattle.std.specs.Prelude.{ℕ, Result}
+use mathlib.Core.Path.{◌≡◌, refl, sym, ap, ◌∙◌}
+use Rattle.std.specs.Prelude.{ℕ, List, [], ◌∷◌, map, eqb, Result, Ok, Err}
+use borrow.Author.Tests.{ne_eqb}
+use Rattle.ground.specs.Choice.{pick}
 use Rattle.ground.specs.declared.Refusal.{Refusal}
-use Rattle.ground.specs.Refusals.{number_in}
-use Rattle.ground.proofs.LawsRefusals.{told_once}
+use Rattle.ground.specs.Refusals.{number_of, number_in}
+use Rattle.ground.proofs.LawsChoice.{no}
+use Rattle.ground.proofs.LawsRefusals.{refusal_of, refusal_kept, never_zero, told_once}
 use Rattle.copies.specs.Copies as copies_answer
 use Rattle.header.specs.Plans as plan_answer
 use Rattle.block.specs.Answers as block_answer
@@ -16,12 +19,17 @@ use Rattle.parity.specs.Sections as sections_answer
 use Rattle.detectors.specs.Status as asked_answer
 use Rattle.tag.specs.Tags as tag_answer
 use Rattle.time.specs.Times as elapsed_answer
+use Rattle.sounder.specs.declared.Fault.{Fault}
+use Rattle.sounder.specs.declared.Status.{Status}
+use Rattle.sounder.specs.Judging as sounder_answer
+use Rattle.tag.specs.declared.Tag.{Tag}
 use Rattle.watch_bounds.specs.declared.Watch.{Watch}
 use Rattle.watch.specs.declared.Stepped.{Stepped}
 use Rattle.watch.specs.declared.Verdict.{Verdict}
 use Rattle.watch.specs.declared.Verdict.TheVariants.{Stray, Opened, Kept, Closed}
 use Rattle.watch.specs.Rules as watch_answer
 use Rattle.watch.specs.Verdicts as verdict_answer
+use Rattle.salvaging.specs.Answers as salvage_answer
 use Rattle.scope.specs.Settled.{AllSettled}
 
 same : {A : Type 0} {a b m : A} → a ≡ m → b ≡ m → a ≡ b
@@ -58,6 +66,44 @@ stepped_once : (w : Watch) {x y : Result Stepped Refusal} {m : watch_answer.Step
 stepped_once w =
     told_once (watch_answer.told_step w) (λ s. verdict_answer.number_of s.verdict) (λ s. record { next = s.next; verdict = verdict_of s.verdict })
     (λ s. not_refused s.verdict) (λ r. refl) (λ s i. record { next = s.next; verdict = is_verdict s.verdict i })
+
+-- each tag of a Sounder block is told by itself
+tag_of : tag_answer.TagRead → Result Tag Refusal
+tag_of r = pick (eqb r.number 0) (Ok r.tag) (Err (refusal_of r.number))
+
+is_tag : (x : Result Tag Refusal) → tag_of (tag_answer.told_tag x) ≡ x
+is_tag (Ok t) = refl
+is_tag (Err r) = sym (no _ refl (ne_eqb (number_of r) 0 (never_zero r)) (ap Err (sym (refusal_kept r))))
+
+are_tags : (xs : List (Result Tag Refusal)) → map tag_of (map tag_answer.told_tag xs) ≡ xs
+are_tags [] = refl
+are_tags (x ∷ xs) i = is_tag x i ∷ are_tags xs i
+
+-- the same with the word that refusal 22 names
+module _ {T A : Type 0} (told : Result T Fault → A) (number word : A → ℕ) (ok : A → T)
+    (zero : (v : T) → number (told (Ok v)) ≡ 0) (own : (f : Fault) → number (told (Err f)) ≡ number_of f.why)
+    (words : (f : Fault) → word (told (Err f)) ≡ f.word) (back : (v : T) → ok (told (Ok v)) ≡ v) where
+  fault_of : A → Fault
+  fault_of a = record { why = refusal_of (number a); word = word a }
+
+  is_fault : (f : Fault) → fault_of (told (Err f)) ≡ f
+  is_fault f i = record { why = (ap refusal_of (own f) ∙ refusal_kept f.why) i; word = words f i }
+
+  fault_once : {x y : Result T Fault} {m : A} → told x ≡ m → told y ≡ m → x ≡ y
+  fault_once {x} {y} p q = go x y (p ∙ sym q)
+    where
+      go : (x y : Result T Fault) → told x ≡ told y → x ≡ y
+      go (Ok v) (Ok w) e = ap Ok (sym (back v) ∙ ap ok e ∙ back w)
+      go (Ok v) (Err f) e = absurd (never_zero f.why (sym (own f) ∙ sym (ap number e) ∙ zero v))
+      go (Err f) (Ok v) e = absurd (never_zero f.why (sym (own f) ∙ ap number e ∙ zero v))
+      go (Err f) (Err g) e = ap Err (sym (is_fault f) ∙ ap fault_of e ∙ is_fault g)
+
+status_once : {x y : Result Status Fault} {m : sounder_answer.StatusAnswer} → sounder_answer.told_status x ≡ m → sounder_answer.told_status y ≡ m → x ≡ y
+status_once =
+    fault_once sounder_answer.told_status (λ a. a.number) (λ a. a.word)
+    (λ a. record { suspects = a.suspects; first = a.first; raw = a.raw; blocks = a.blocks; frame = a.frame; tags = map tag_of a.tags })
+    (λ v. refl) (λ f. refl) (λ f. refl)
+    (λ v i. record { suspects = v.suspects; first = v.first; raw = v.raw; blocks = v.blocks; frame = v.frame; tags = are_tags v.tags i })
 
 pub settled : AllSettled
 settled =
@@ -136,8 +182,11 @@ settled =
         λ _ _ x y. (told_once elapsed_answer.told (λ a. a.number) (λ a. a.ms) (λ v. refl) (λ r. refl) (λ v. refl) x.allowed y.allowed, refl),
       );
       sounder = (
-        λ _ _ x y. (same x.allowed y.allowed, refl),
-        λ _ _ x y. (same x.allowed y.allowed, refl),
+        λ _ _ x y. (status_once x.allowed y.allowed, refl),
+        λ _ _ x y. (
+          fault_once sounder_answer.told_asked (λ a. a.number) (λ a. a.word) (λ a. a.suspect) (λ v. refl) (λ f. refl) (λ f. refl) (λ v. refl) x.allowed y.allowed,
+          refl,
+        ),
       );
       watch_rule_is = λ _ _ x y. (same x.allowed y.allowed, refl);
       watch_bounds_is = (
@@ -159,7 +208,8 @@ settled =
       made = λ _ _ x y. (same x.allowed.0 y.allowed.0, λ i. (tt, (tt, (same x.allowed.1 y.allowed.1 i, tt))));
       salvaging =
           λ _ _ x y. (
-            same x.allowed.0 y.allowed.0,
+            told_once salvage_answer.told (λ a. a.number) (λ a. record { bytes = a.bytes; entries = a.entries; blocks = a.blocks }) (λ v. refl) (λ r. refl) (λ v. refl)
+            x.allowed.0 y.allowed.0,
             λ i. (tt, (same x.allowed.1.0 y.allowed.1.0 i, (same x.allowed.1.1.0 y.allowed.1.1.0 i, (same x.allowed.1.1.1 y.allowed.1.1.1 i, tt)))),
           );
       text = (
