@@ -12,6 +12,7 @@ ghost use Rattle.c_numbers.specs.Numbers.{up_to};
 ghost use Rattle.c_recording.specs.Told.{code_of, line_from, put_number, number_by};
 
 use c_numbers::{in_byte, is_on};
+use ground::Refusal;
 use recording::{Found, Line};
 
 // The numbers of what was found, as the header names them.
@@ -37,8 +38,7 @@ pub extern "C" fn rahmisve_next_field(
     *tag = 0;
     *start = 0;
     *length = 0;
-    let found = recording::next_field(recording, at);
-    match found {
+    match recording::next_field(recording, at) {
         Found::End => END,
         Found::Cut => CUT,
         Found::Whole(its_tag, body, bytes) => {
@@ -77,7 +77,7 @@ fn number_of(bytes: usize) -> u8
     ensures { result ≡ number_by bytes }
 {
     if bytes == 0 {
-        return ground::SMALL_ROOM;
+        return Refusal::SmallRoom.number();
     }
     ground::ACCEPTED
 }
@@ -108,7 +108,7 @@ pub extern "C" fn rahmisve_line_text(
     ensures room_after { room.new ≡ laid_inside room.old 0 (line_text (line_from seq block version word_count answer)) }
 {
     let line = Line {
-        seq: seq,
+        seq,
         answer: in_byte(answer),
         block: in_byte(block),
         version: in_byte(version),

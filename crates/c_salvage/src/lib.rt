@@ -19,9 +19,18 @@ pub extern "C" fn rahmisve_salvage(
     ensures report_after { report.new ≡ report_after input.now (length recording.old) report.old (length scratch.old) }
     ensures scratch_after { scratch.new ≡ scratch_after input.now (length recording.old) (length report.old) scratch.old }
 {
-    let salvaged = salvaging::salvage(input, recording, report, scratch);
-    *bytes = salvaged.bytes;
-    *entries = salvaged.entries;
-    *blocks = salvaged.blocks;
-    salvaged.number
+    match salvaging::salvage(input, recording, report, scratch) {
+        Ok(salvaged) => {
+            *bytes = salvaged.bytes;
+            *entries = salvaged.entries;
+            *blocks = salvaged.blocks;
+            ground::ACCEPTED
+        }
+        Err(refusal) => {
+            *bytes = 0;
+            *entries = 0;
+            *blocks = 0;
+            refusal.number()
+        }
+    }
 }

@@ -1,6 +1,13 @@
 -- `c_salvage::rahmisve_salvage` meets its contract: what the salvage answers, number by number, and leaves.
 -- Assumes nothing.
+use mathlib.Core.Path.{ap, ◌∙◌}
+use Rattle.salvaging.specs.Answers.{refused_salvaged}
 use Rattle.c_salvage.proofs.rahmisve_salvage.Goals as goal
 
-pub returns : goal.returns
-returns c = record { blocks_after = c.salvage-salvaged.ensures.value; recording_after = c.salvage-salvaged.ensures.recording_after; report_after = c.salvage-salvaged.ensures.report_after; scratch_after = c.salvage-salvaged.ensures.scratch_after }
+pub returns-in-Ok : goal.returns-in-Ok
+returns-in-Ok c =
+    let e = c.in-Ok.ensures in record { blocks_after = e.value; recording_after = e.recording_after; report_after = e.report_after; scratch_after = e.scratch_after }
+
+pub returns-in-Err : goal.returns-in-Err
+returns-in-Err c =
+    let e = c.in-Err.ensures in record { blocks_after = ap refused_salvaged c.number.ensures ∙ e.value; recording_after = e.recording_after; report_after = e.report_after; scratch_after = e.scratch_after }
