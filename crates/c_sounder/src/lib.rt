@@ -1,73 +1,76 @@
 // The Sounder's status, from C: thirteen numbers of a block, a row of eight for each of its tags, and whether one detector is suspect.
 #![tactic(auto)]
 
-ghost use Rattle.std.specs.Prelude.{◌≡◌, map};
+ghost use Rattle.std.specs.Prelude.{◌≡◌, map, Ok};
+ghost use Rattle.tag.specs.Tags.{told_tag};
 ghost use Rattle.detectors.specs.Status.{channel_of, detector_of};
-ghost use Rattle.sounder.specs.Judging.{status_of, asked_of};
+ghost use Rattle.sounder.specs.Judging.{told_status, status_of, asked_of};
 ghost use Rattle.c_numbers.specs.Marks.{mark};
 ghost use Rattle.c_sounder.specs.Rows.{numbers_of, row_of};
 
 use c_numbers::marked;
-use detectors::First;
+use detectors::Detector;
+use ground::Refusal;
 use sounder::Status;
-use tag::TagRead;
+use tag::Tag;
 
 const TAGS: usize = 15;
 
-fn channel_of(first: First) -> u32
+// The tags of a block that is refused.
+const NO_TAGS: &[Result<Tag, Refusal>; TAGS] = &[Ok(Tag {
+    year: 0,
+    day: 0,
+    hour: 0,
+    minute: 0,
+    second: 0,
+    ms: 0,
+    flywheel: false,
+}); TAGS];
+
+fn channel_of(first: Option<Detector>) -> u32
     ensures { result ≡ channel_of first }
 {
-    match first {
-        First::Detector(channel, _) => channel,
-        First::Nobody => 0,
-    }
+    first.map_or(0, |detector| detector.channel)
 }
 
-fn detector_of(first: First) -> u32
+fn detector_of(first: Option<Detector>) -> u32
     ensures { result ≡ detector_of first }
 {
-    match first {
-        First::Detector(_, detector) => detector,
-        First::Nobody => 0,
-    }
-}
-
-fn wide(n: u16) -> u32
-    ensures { result ≡ n }
-{
-    n as u32
+    first.map_or(0, |detector| detector.number)
 }
 
 fn numbers_of(status: Status) -> [u32; 13]
-    ensures { result ≡ numbers_of status }
+    ensures { result ≡ numbers_of (told_status (Ok status)) }
 {
-    let first = status.first;
     let frame = status.frame;
     [
-        status.word as u32,
+        0,
         status.suspects,
-        channel_of(first),
-        detector_of(first),
+        channel_of(status.first),
+        detector_of(status.first),
         status.raw as u32,
         status.blocks as u32,
-        wide(frame[0]),
-        wide(frame[1]),
-        wide(frame[2]),
-        wide(frame[3]),
-        wide(frame[4]),
-        wide(frame[5]),
-        wide(frame[6]),
+        frame[0] as u32,
+        frame[1] as u32,
+        frame[2] as u32,
+        frame[3] as u32,
+        frame[4] as u32,
+        frame[5] as u32,
+        frame[6] as u32,
     ]
 }
 
 // A tag's answer, and the seven numbers of its time.
-fn row_of(read: TagRead) -> [u32; 8]
-    ensures { result ≡ row_of read }
+fn row_of(read: Result<Tag, Refusal>) -> [u32; 8]
+    ensures { result ≡ row_of (told_tag read) }
 {
-    let tag = read.tag;
+    let (answer, tag) = match read {
+        Ok(tag) => (ground::ACCEPTED, tag),
+        Err(refusal) => (refusal.number(), tag::zero_tag()),
+    };
     let time = c_tags::numbers_of(tag);
     [
-        read.number as u32,
+        answer as u32,
         time[0],
         time[1],
         time[2],
@@ -81,13 +84,11 @@ fn row_of(read: TagRead) -> [u32; 8]
 // Row by row to the place that C lends, and in a function of its own: where so many bytes are a local, or are known to be zeros, the
 // compiler calls `memset`.
 #[inline(never)]
-fn rows_of(tags: &[TagRead; 15], rows: &mut [[u32; 8]; 15])
-    ensures { rows.new ≡ map row_of tags.now }
+fn rows_of(tags: &[Result<Tag, Refusal>; 15], rows: &mut [[u32; 8]; 15])
+    ensures { rows.new ≡ map (λ read. row_of (told_tag read)) tags.now }
 {
-    let mut i: usize = 0;
-    while i < TAGS {
+    for i in 0..TAGS {
         rows[i] = row_of(tags[i]);
-        i += 1;
     }
 }
 
@@ -102,10 +103,18 @@ pub extern "C" fn rahmisve_sounder_status(
     ensures status_after { status.new ≡ numbers_of (status_of leap_days.now words.now) }
     ensures tags_after { tags.new ≡ map row_of (status_of leap_days.now words.now).tags }
 {
-    let judged = sounder::judge(words, leap_days);
-    *status = numbers_of(judged);
-    rows_of(&judged.tags, tags);
-    judged.number
+    match sounder::judge(words, leap_days) {
+        Ok(judged) => {
+            *status = numbers_of(judged);
+            rows_of(&judged.tags, tags);
+            ground::ACCEPTED
+        }
+        Err(fault) => {
+            *status = [fault.word as u32, 0, 0, 0, 0, 0, 0, 0, 0, 0, 0, 0, 0];
+            rows_of(NO_TAGS, tags);
+            fault.why.number()
+        }
+    }
 }
 
 #[unsafe(no_mangle)]
@@ -121,8 +130,11 @@ pub extern "C" fn rahmisve_sounder_suspect(
     ensures word_after { word.new ≡ (asked_of leap_days.now words.now channel detector).word }
     ensures suspect_after { suspect.new ≡ mark (asked_of leap_days.now words.now channel detector).suspect }
 {
-    let asked = sounder::ask(words, leap_days, channel, detector);
-    *word = asked.word as u32;
-    *suspect = marked(asked.suspect);
-    asked.number
+    let (answer, named, found) = match sounder::ask(words, leap_days, channel, detector) {
+        Ok(found) => (ground::ACCEPTED, 0, found),
+        Err(fault) => (fault.why.number(), fault.word, false),
+    };
+    *word = named as u32;
+    *suspect = marked(found);
+    answer
 }

@@ -1,10 +1,13 @@
 -- `rahmisve_sounder_status` gives what judging the block does, in rows.
 -- Assumes nothing.
-use mathlib.Core.Path.{ap, ◌∙◌}
+use mathlib.Core.Path.{sym, ap, ◌∙◌}
 use mathlib.Core.List.{map}
-use Rattle.sounder.specs.declared.Status.{Status}
-use Rattle.c_sounder.specs.Rows.{numbers_of, row_of}
+use Rattle.std.proofs.lemmas.Simd.{map-map}
+use Rattle.tag.specs.Tags.{told_tag}
+use Rattle.sounder.specs.Judging.{StatusAnswer}
+use Rattle.c_sounder.specs.Rows.{row_of}
 use Rattle.c_sounder.proofs.rahmisve_sounder_status.Goals as goal
 
-pub returns : goal.returns
-returns c = record { value = ap (λ (s : Status). s.number) c.judge-judged.ensures; status_after = c.numbers_of.ensures ∙ ap numbers_of c.judge-judged.ensures; tags_after = c.rows_of.ensures ∙ ap (λ (s : Status). map row_of s.tags) c.judge-judged.ensures }
+pub returns-in-Ok-clause-tags_after : goal.returns-in-Ok-clause-tags_after
+returns-in-Ok-clause-tags_after c =
+    c.rows_of.ensures ∙ sym (map-map row_of told_tag c.in-Ok.judged.tags) ∙ ap (λ (s : StatusAnswer). map row_of s.tags) c.in-Ok.ensures

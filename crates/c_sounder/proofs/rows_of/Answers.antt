@@ -6,12 +6,13 @@ use Prim.Native.Nat.{ℕ, ◌+◌, ◌<◌}
 use native.Mathlib.Omega.{arith}
 use lib.ListN.{length, set}
 use Rattle.ground.proofs.LawsFilling.{Filling, start, next, finish}
+use Rattle.tag.specs.Tags.{told_tag}
 use Rattle.c_sounder.specs.Rows.{row_of}
 use Rattle.c_sounder.proofs.rows_of.Invariants.{none}
 use Rattle.c_sounder.proofs.rows_of.Goals as goal
 
 pub loop-i-init : goal.loop-i-init
-loop-i-init c = start row_of none _ _ (c.told-tags ∙ sym c.told-rows)
+loop-i-init c = start _ none _ _ (c.told-tags ∙ sym c.told-rows)
 
 pub bounds-tags-i : goal.bounds-tags-i
 bounds-tags-i c = omega arith
@@ -24,10 +25,10 @@ loop-i-preserved c =
     let rows = c.loop-i.rows in
     let i = c.loop-i.i in
     let in_rows : i < length rows = omega (arith, c.loop-i.invariant.long, c.told-tags) in
-    subst (λ (row : List ℕ). Filling row_of none c.args.tags.now (set rows i row) (i + 1)) (sym c.row_of.ensures)
-    (next row_of none c.loop-i.invariant in_rows)
+    subst (λ (row : List ℕ). Filling (λ read. row_of (told_tag read)) none c.args.tags.now (set rows i row) (i + 1)) (sym c.row_of.ensures)
+    (next _ none c.loop-i.invariant in_rows)
 
 pub returns : goal.returns
 returns c =
-    finish row_of none c.loop-i.invariant
+    finish _ none c.loop-i.invariant
     (omega (arith, c.loop-i.invariant.long, c.told-tags, c.loop-i-test.false))
