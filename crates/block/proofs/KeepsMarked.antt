@@ -17,10 +17,8 @@ use Rattle.check_rule.specs.Finds.{Passes}
 use Rattle.copies.specs.Copies.{header_length, copies_length, copy_at}
 use Rattle.copies.specs.Agreed.{Agreed}
 use Rattle.copies.proofs.LawsAgreed.{agreed_none}
-use Rattle.block.specs.Answers.{Answer}
-use Rattle.block.specs.Answers.{Judged}
+use Rattle.block.specs.Answers.{Answer, Judged, refused_answer, answer_of, room_after, judged_by, room_by}
 use Rattle.block.specs.Grounds.{refusal_by}
-use Rattle.block.specs.Answers.{refused_answer, answer_of, room_after, judged_by, room_by}
 use Rattle.block.specs.Promises.{Accepted, MarkUnread, MarkedApart, ReadsMarkedAlike}
 use Rattle.block.proofs.KeepsReader.{refusal_leaves, accepted_answer_is, answers_truly}
 use Rattle.block.proofs.KeepsJudged.{reads_by_common}

@@ -25,10 +25,9 @@ use Rattle.copies.proofs.LawsAgreed.{copy_bytes, none_passes, passes_none}
 use Rattle.header.specs.Says.{block_in, words_in, bytes_in}
 use Rattle.header.specs.Plans.{header_grounds}
 use Rattle.header.proofs.LawsAsks.{none_asks}
-use Rattle.block.specs.Answers.{Answer}
+use Rattle.block.specs.Answers.{Answer, refused_answer, accepted_answer, answer_of, words_laid, room_after}
 use Rattle.block.specs.Layout.{information_field}
 use Rattle.block.specs.Grounds.{wrong_length, off_boundary, small_room, grounds_of, refusal_of}
-use Rattle.block.specs.Answers.{refused_answer, accepted_answer, answer_of, words_laid, room_after}
 use Rattle.block.specs.Meets.{Meets}
 use Rattle.block.specs.Promises.{Accepted, RefusesInOrder, RefusesExactly, RefusalLeaves, TwoExactly, SeventeenNever, NineNever, FillMeasured, AcceptsExactly, AnswersTruly, GivesWords}
 use Rattle.block.proofs.LawsMeets.{none_meets, meets_none, header_is, words_are, size_is, bytes_are, refused_9}

@@ -17,19 +17,15 @@ use Rattle.ground.proofs.LawsGrounds.{none_first, first_none, first_then, accept
 use Rattle.bits.specs.Fields.{words_of, bad_size, fit, take_answer, room_taken}
 use Rattle.check_rule.specs.Check.{passes}
 use Rattle.row.specs.Promises.{Held}
-use Rattle.copies.specs.Copies.{CommonAnswer}
-use Rattle.copies.specs.Copies.{header_length, copy_length, copies_length, copy_at, common, common_in, header_in, copies_grounds, found_common, common_of}
+use Rattle.copies.specs.Copies.{CommonAnswer, header_length, copy_length, copies_length, copy_at, common, common_in, header_in, copies_grounds, found_common, common_of}
 use Rattle.copies.proofs.LawsAgreed.{copy_long}
 use Rattle.copies.proofs.KeepsCopies.{common_number, common_found}
-use Rattle.header.specs.Plans.{PlanAnswer}
+use Rattle.header.specs.Plans.{PlanAnswer, header_grounds, granted_plan, plan_of}
 use Rattle.header.specs.Says.{words_in, bytes_in}
-use Rattle.header.specs.Plans.{header_grounds, granted_plan, plan_of}
 use Rattle.header.proofs.LawsThen.{header_decides, others_decide, plan_is, plan_held}
-use Rattle.block.specs.Answers.{Answer}
-use Rattle.block.specs.Answers.{Judged}
+use Rattle.block.specs.Answers.{Answer, Judged, refused_judged, accepted_judged, judged_by, words_laid, room_by, refused_answer, answer_with, accepted_answer, answer_of, room_after}
 use Rattle.block.specs.Layout.{block_length, information_field}
 use Rattle.block.specs.Grounds.{wrong_length, field_grounds, field_by, refusal_by, refusal_of}
-use Rattle.block.specs.Answers.{refused_judged, accepted_judged, judged_by, words_laid, room_by, refused_answer, answer_with, accepted_answer, answer_of, room_after}
 
 -- what the test of the length shows
 pub right_length : {t : Bool} (bytes : ℕ) (block : List ℕ) → t ≡ wrong_length bytes block → t ≡ false → length block ≡ block_length bytes
