@@ -14,9 +14,8 @@ pub(crate) fn copy_at(block: &[u8], k: usize) -> [u8; 30]
     ensures { result ≡ copy_at k block.now }
 {
     let start = k * COPY_BYTES;
-    let end = start + COPY_BYTES;
     let mut copy = [0u8; 30];
-    room::lay(&block[start..end], &mut copy, 0);
+    copy.copy_from_slice(&block[start..start + COPY_BYTES]);
     copy
 }
 
@@ -26,24 +25,11 @@ fn copy_passes(copy: [u8; 30]) -> bool
     check_word::passes(&copy)
 }
 
-fn same(a: [u8; 30], b: [u8; 30]) -> bool
-    ensures { result ≡ same_as a b }
-{
-    let mut i: usize = 0;
-    while i < COPY_BYTES {
-        if a[i] != b[i] {
-            return false;
-        }
-        i += 1;
-    }
-    true
-}
-
 // Whether both pass and they differ.
 fn differ(p: bool, a: [u8; 30], q: bool, b: [u8; 30]) -> bool
     ensures { result ≡ p && (q && not (same_as a b)) }
 {
-    p & (q & !same(a, b))
+    p & (q & (a != b))
 }
 
 // A copy without its check word.
@@ -51,7 +37,7 @@ fn front(copy: [u8; 30]) -> [u8; 28]
     ensures { result ≡ take header_length copy }
 {
     let mut bytes = [0u8; 28];
-    room::lay(&copy[..HEADER_BYTES], &mut bytes, 0);
+    bytes.copy_from_slice(&copy[..HEADER_BYTES]);
     bytes
 }
 

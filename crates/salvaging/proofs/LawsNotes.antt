@@ -38,14 +38,6 @@ module _ (from to : ℕ) where
   unfolding span_entry
   entry_none h = sym (no {x = []} _ refl (le-ltb from to h) refl)
 
--- the library's comparison of two slices
-pub slices_same : (xs ys : List ℕ) → pointwise eqb xs ys ≡ same_as xs ys
-unfolding same_as
-slices_same [] [] = refl
-slices_same [] (y ∷ ys) = refl
-slices_same (x ∷ xs) [] = refl
-slices_same (x ∷ xs) (y ∷ ys) = ap (λ (t : Bool). eqb x y && t) (slices_same xs ys)
-
 module _ (one k : ℕ) (rest : List ℕ) {t : Bool} (e : t ≡ same_as (copy_at one rest) (copy_at k rest)) where
   pub same_0 : t ≡ true → 0 ≡ differs one k rest
   unfolding differs

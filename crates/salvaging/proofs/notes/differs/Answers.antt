@@ -3,7 +3,8 @@
 use mathlib.Core.Path.{ap₂, ◌∙◌}
 use native.Mathlib.Omega.{arith}
 use Rattle.copies.specs.Copies.{same_as}
-use Rattle.salvaging.proofs.LawsNotes.{slices_same, same_0, differ_1}
+use Rattle.copies.proofs.LawsSame.{slices_same}
+use Rattle.salvaging.proofs.LawsNotes.{same_0, differ_1}
 use Rattle.salvaging.proofs.notes.differs.Goals as goal
 
 pub returns-then-eq : goal.returns-then-eq
