@@ -11,7 +11,7 @@ use ground::Refusal;
 mod field;
 
 // What is read of a block beside its words: what the header copies have in common, and how many words there are.
-#[derive(Clone, Copy)]
+#[derive(Clone, Copy, Debug, PartialEq, Eq)]
 pub struct Contents {
     pub common: Common,
     pub words: usize,

@@ -6,8 +6,7 @@ use mathlib.Core.List.{List}
 use Rattle.ground.specs.Grounds.{first_of}
 use Rattle.ground.proofs.LawsGrounds.{accepts, refuses, reads_number, none_first, first_none}
 use Rattle.bits.specs.Bits.{Below}
-use Rattle.copies.specs.Copies.{CommonAnswer}
-use Rattle.copies.specs.Copies.{copy_at, common_in, copies_grounds, found_common, refused_common, common_of}
+use Rattle.copies.specs.Copies.{CommonAnswer, copy_at, common_in, copies_grounds, found_common, refused_common, common_of}
 use Rattle.copies.specs.Agreed.{Agreed}
 use Rattle.copies.specs.Promises.{agreed_common, ReadsCommon}
 use Rattle.copies.proofs.LawsAgreed.{none_agreed, agreed_none}

@@ -1,4 +1,4 @@
--- Strings compared byte by byte.
+-- The comparison of two strings, byte by byte.
 -- Assumes nothing.
 use Prim.Native.Nat.{ℕ}
 use mathlib.Core.Path.{◌≡◌, refl, ap, ap₂, ◌∙◌}
@@ -10,7 +10,7 @@ use borrow.Author.Tests.{eqb-true, eq-eqb}
 use Rattle.ground.proofs.LawsTests.{split}
 use Rattle.copies.specs.Copies.{same_as}
 
--- the library's comparison of two slices
+-- it is what `==` says of two slices
 pub slices_same : (xs ys : List ℕ) → pointwise eqb xs ys ≡ same_as xs ys
 unfolding same_as
 slices_same [] [] = refl

@@ -3,8 +3,7 @@
 use Rattle.std.specs.Prelude.{ℕ, ◌≡◌, List, take}
 use Rattle.bits.specs.Bits.{Below}
 use Rattle.check_rule.specs.Check.{passes}
-use Rattle.copies.specs.Copies.{CommonAnswer}
-use Rattle.copies.specs.Copies.{header_length, copy_at, common_of, refused_common}
+use Rattle.copies.specs.Copies.{CommonAnswer, header_length, copy_at, common_of, refused_common}
 use Rattle.copies.specs.Agreed.{Agreed}
 
 -- the first 28 bytes of what the copies that pass have in common, and which of the copies passed

@@ -18,9 +18,9 @@ pub const COPIES_BYTES: usize = 90;
 pub const COPIES: usize = 3;
 
 // What the three copies have in common: the header's 28 bytes, and which copies passed.
-#[derive(Clone, Copy)]
+#[derive(Clone, Copy, Debug, PartialEq, Eq)]
 pub struct Common {
-    pub header: [u8; 28],
+    pub header: [u8; HEADER_BYTES],
     pub first: bool,
     pub second: bool,
     pub third: bool,

@@ -17,9 +17,8 @@ use Rattle.row.specs.Promises.{longest_field, Held}
 use Rattle.row.proofs.LawsRow.{row_records}
 use Rattle.row.proofs.LawsField.{words_held}
 use Rattle.copies.specs.Copies.{header_length}
-use Rattle.header.specs.Plans.{PlanAnswer}
+use Rattle.header.specs.Plans.{PlanAnswer, plan_grounds, header_grounds, granted_plan, refused_plan, plan_of}
 use Rattle.header.specs.Says.{number_of, block_in, size_in, words_in, version_in, bytes_in}
-use Rattle.header.specs.Plans.{plan_grounds, header_grounds, granted_plan, refused_plan, plan_of}
 use Rattle.header.specs.Asks.{Asks}
 use Rattle.header.specs.Promises.{asked_plan, GrantsAsked, WordsInPlace, MarkUnread}
 use Rattle.header.proofs.LawsPlans.{long_first}

@@ -14,8 +14,7 @@ use Rattle.ground.proofs.LawsGrounds.{first_then}
 use Rattle.row.specs.Promises.{longest_field, Held}
 use Rattle.copies.specs.Copies.{header_length}
 use Rattle.header.specs.Says.{size_in, words_in, bytes_in}
-use Rattle.header.specs.Plans.{plan_grounds, plan_of, granted_plan}
-use Rattle.header.specs.Plans.{PlanAnswer}
+use Rattle.header.specs.Plans.{plan_grounds, plan_of, granted_plan, PlanAnswer}
 use Rattle.header.proofs.KeepsHeader.{plan_number, plan_granted, granted_held, plan_short, grants_asked}
 
 module _ (h : List ℕ) {p : PlanAnswer} (e : p ≡ plan_of h) where

@@ -4,9 +4,8 @@ use Rattle.std.specs.Prelude.{ℕ, ◌-◌, ◌≡◌, List, ◌∷◌, length, 
 use Rattle.row.specs.Rows.{records_in}
 use Rattle.row.specs.Field.{field_bytes}
 use Rattle.copies.specs.Copies.{header_length}
-use Rattle.header.specs.Plans.{PlanAnswer}
+use Rattle.header.specs.Plans.{PlanAnswer, plan_of, refused_plan}
 use Rattle.header.specs.Says.{block_in, size_in, words_in, version_in}
-use Rattle.header.specs.Plans.{plan_of, refused_plan}
 use Rattle.header.specs.Asks.{Asks}
 
 -- the plan of block b, version v, with C words of w bits

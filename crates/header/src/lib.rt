@@ -14,7 +14,7 @@ mod says;
 pub const EXTRA_WORDS: u16 = 2;
 
 // What a header asks for. `words` is C, the data words before fill, and `bytes` the length of the field.
-#[derive(Clone, Copy)]
+#[derive(Clone, Copy, Debug, PartialEq, Eq)]
 pub struct Plan {
     pub block: u8,
     pub version: u8,

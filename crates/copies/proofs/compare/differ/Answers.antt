@@ -1,4 +1,4 @@
--- `differ` compares by the library.
+-- `differ` joins its tests as its definition does.
 -- Assumes nothing.
 use mathlib.Core.Path.{ap, ◌∙◌}
 use mathlib.Core.Bool.{Bool, not, ◌&&◌}
@@ -6,4 +6,4 @@ use Rattle.copies.proofs.LawsSame.{slices_same}
 use Rattle.copies.proofs.compare.differ.Goals as goal
 
 pub returns : goal.returns
-returns c = ap (λ (t : Bool). c.args.p && (c.args.q && t)) (c.ne.ensures ∙ ap not (slices_same c.args.a c.args.b))
+returns c = let a = c.args in ap (λ (t : Bool). a.p && (a.q && t)) (c.ne.ensures ∙ ap not (slices_same a.a a.b))

@@ -1,4 +1,4 @@
--- `front` copies as many bytes as its array has.
+-- `front` copies the first bytes of a copy, which has more.
 -- Assumes nothing.
 use mathlib.Core.Path.{sym}
 use native.Mathlib.Omega.{arith}
