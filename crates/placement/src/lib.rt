@@ -8,7 +8,7 @@ ghost use Rattle.placement.specs.Placement.{held_in, told, place_of};
 use ground::Refusal;
 
 // What a record holds.
-#[derive(Clone, Copy)]
+#[derive(Clone, Copy, Debug, PartialEq, Eq)]
 pub struct Placed {
     pub channel: u8,
     pub detector: u8,

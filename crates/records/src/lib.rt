@@ -7,7 +7,7 @@ ghost use Rattle.records.specs.Records.{told, part_of, record_of};
 use ground::Refusal;
 
 // Where a record lies in the words, counted from 0.
-#[derive(Clone, Copy)]
+#[derive(Clone, Copy, Debug, PartialEq, Eq)]
 pub struct Part {
     pub start: usize,
     pub length: usize,
