@@ -6,14 +6,6 @@ ghost use Rattle.std.specs.Prelude.{IsTrue};
 
 use parity::Layout;
 
-fn print(rt: &HostRuntime, text: &[u8]) {
-    let _ = rt.write_all(text);
-}
-
-fn number(rt: &HostRuntime, n: u8) {
-    let _ = print!(rt; "{n}");
-}
-
 // What is so is known before it runs.
 fn expect(holds: bool)
     requires { IsTrue holds }
@@ -36,28 +28,20 @@ fn worked_examples() {
 }
 
 fn placed(rt: &HostRuntime, block: u8, version: u8, record: u8) {
-    let p = placement::place(block, version, record);
-    print(rt, b"  ");
-    number(rt, p.number);
-    print(rt, b" ");
-    number(rt, p.channel);
-    print(rt, b"/");
-    number(rt, p.detector);
-}
-
-fn head(rt: &HostRuntime, block: u8, version: u8) {
-    number(rt, block);
-    print(rt, b" ");
-    number(rt, version);
+    let (answer, channel, detector) = match placement::place(block, version, record) {
+        Ok(placed) => (ground::ACCEPTED, placed.channel, placed.detector),
+        Err(refusal) => (refusal.number(), 0, 0),
+    };
+    let _ = print!(rt; "  {answer} {channel}/{detector}");
 }
 
 fn end(rt: &HostRuntime) {
-    print(rt, b"\n");
+    let _ = print!(rt; "\n");
 }
 
 // A block and a version, then for each record from 0 to 5 the number, the channel and the detector.
 fn records(rt: &HostRuntime, block: u8, version: u8) {
-    head(rt, block, version);
+    let _ = print!(rt; "{block} {version}");
     for record in 0..=5 {
         placed(rt, block, version, record);
     }
@@ -77,19 +61,18 @@ fn placements(rt: &HostRuntime) {
     }
 }
 
-fn mark(rt: &HostRuntime, holds: bool) {
-    print(rt, b" ");
-    number(rt, holds as u8);
-}
-
 fn verdicts(rt: &HostRuntime, layout: Layout, words: &[u16]) {
-    let s = parity::check_sections(layout, words);
-    number(rt, s.number);
-    print(rt, b" ");
-    number(rt, s.count);
-    let sections = s.holds;
-    for &holds in &sections {
-        mark(rt, holds);
+    let (answer, count, holds) = match parity::check_sections(layout, words) {
+        Ok(sections) => {
+            let holds = sections.holds;
+            (ground::ACCEPTED, sections.count, holds)
+        }
+        Err(refusal) => (refusal.number(), 0, [false; 4]),
+    };
+    let _ = print!(rt; "{answer} {count}");
+    for &verdict in &holds {
+        let mark = verdict as u8;
+        let _ = print!(rt; " {mark}");
     }
     end(rt);
 }
