@@ -92,7 +92,7 @@ same_number layout ws =
     reads_number (judged_as (length (sections_in layout)) (verdicts_on layout ws)) refused_by (λ (r : SectionsAnswer). r.number) refl (λ _. refl) (ground_of ws)
 
 accepted : (layout : Layout) (ws : List ℕ) → (sections_of layout ws).number ≡ 0 → judged_as (length (sections_in layout)) (verdicts_on layout ws) ≡ sections_of layout ws
-accepted layout ws h = accepts layout ws layout refl (sym (same_number layout ws) ∙ h)
+accepted layout ws h = accepts layout ws (sym (same_number layout ws) ∙ h)
 
 pub judging : Judging
 judging = record {

@@ -48,6 +48,7 @@ verdict_of verdict_answer.Kept = Kept
 verdict_of (verdict_answer.Closed why fill count) = Closed why fill count
 
 is_verdict : (v : Verdict) → verdict_of (verdict_answer.verdict_in v) ≡ v
+unfolding verdict_of
 is_verdict Stray = refl
 is_verdict Opened = refl
 is_verdict Kept = refl
@@ -72,12 +73,13 @@ tag_of : tag_answer.TagRead → Result Tag Refusal
 tag_of r = pick (eqb r.number 0) (Ok r.tag) (Err (refusal_of r.number))
 
 is_tag : (x : Result Tag Refusal) → tag_of (tag_answer.told_tag x) ≡ x
+unfolding tag_of
 is_tag (Ok t) = refl
 is_tag (Err r) = sym (no _ refl (ne_eqb (number_of r) 0 (never_zero r)) (ap Err (sym (refusal_kept r))))
 
 are_tags : (xs : List (Result Tag Refusal)) → map tag_of (map tag_answer.told_tag xs) ≡ xs
 are_tags [] = refl
-are_tags (x ∷ xs) i = is_tag x i ∷ are_tags xs i
+are_tags (x ∷ xs) = λ i. is_tag x i ∷ are_tags xs i
 
 -- the same with the word that refusal 22 names
 module _ {T A : Type 0} (told : Result T Fault → A) (number word : A → ℕ) (ok : A → T)
@@ -87,6 +89,7 @@ module _ {T A : Type 0} (told : Result T Fault → A) (number word : A → ℕ) 
   fault_of a = record { why = refusal_of (number a); word = word a }
 
   is_fault : (f : Fault) → fault_of (told (Err f)) ≡ f
+  unfolding fault_of
   is_fault f i = record { why = (ap refusal_of (own f) ∙ refusal_kept f.why) i; word = words f i }
 
   fault_once : {x y : Result T Fault} {m : A} → told x ≡ m → told y ≡ m → x ≡ y

@@ -6,6 +6,7 @@ use mathlib.Core.Path.{◌≡◌, refl, sym, ap, ◌∙◌, subst}
 use mathlib.Core.Logic.{◌⊎◌, inl, inr, ⊎_elim}
 use mathlib.Core.Bool.{Bool, true, false, not, ◌||◌}
 use mathlib.Core.List.{List, [], ◌∷◌}
+use Rattle.std.specs.Prelude.{Option}
 use native.Mathlib.Nat.{le_of_suc-le-suc, lt_of_not-le}
 use native.Mathlib.Omega.{arith}
 use lib.Dec.{eqb, ltb}
@@ -15,12 +16,12 @@ use Rattle.ground.specs.Choice.{pick}
 use Rattle.detectors.specs.Status.{spare_zero, channel_of, detector_of, suspects_of}
 use Rattle.detectors.specs.Promises as Detectors
 use Rattle.detectors.specs.Promises.{Inside, sum_to}
-use Rattle.detectors.specs.declared.First.{First}
+use Rattle.detectors.specs.declared.Detector.{Detector}
 use Rattle.detectors.proofs.KeepsDetectors as Kept
 use Rattle.sounder.specs.Frame.{frame_of, first_out}
 use Rattle.sounder.specs.Judging.{status_of, asked_of}
 use Rattle.sounder.specs.Promises.{status, Out, NoneOut, Plain, SpareZero}
-use Rattle.sounder.specs.declared.Asked.{Asked}
+use Rattle.sounder.specs.Judging.{Asked}
 use Rattle.sounder.proofs.LawsWords.{part_long}
 use Rattle.sounder.proofs.KeepsFrame.{framing}
 use Rattle.sounder.proofs.KeepsSounder.{judging, asking, asked_suspect, asked_no_word, ten_words}
@@ -162,7 +163,7 @@ module _ (leaps ws : List ℕ) where
       none_before = λ c' d' i b. sym (same c' d') ∙ f.none_before c' d' i b;
     }
 
-    abbrev First-so : First → Type 0
+    abbrev First-so : Option Detector → Type 0
     First-so f = (NoneSuspect leaps ws × (channel_of f ≡ 0) × (detector_of f ≡ 0)) ⊎ FirstSuspect leaps ws (channel_of f) (detector_of f)
 
     found : First-so (suspects_of (status ws)).first

@@ -1,11 +1,10 @@
 -- Sounder status: what is answered of a documentation block, and of one detector that is asked for, with any list of leap days, good or bad.
 -- Words count from 1, and bits from 0 in the order sent.
 -- Assumes nothing.
-use Rattle.std.specs.Prelude.{ℕ, suc, ◌+◌, ◌*◌, ◌≤◌, ◌<◌, ◌≡◌, ◌⊎◌, ◌↔◌, Bool, true, false, List, [], ◌∷◌, ◌++◌, length, get_or, take, drop}
+use Rattle.std.specs.Prelude.{ℕ, suc, ◌+◌, ◌*◌, ◌≤◌, ◌<◌, ◌≡◌, ◌⊎◌, ◌↔◌, Bool, true, false, List, [], ◌∷◌, ◌++◌, length, get_or, take, drop, None}
 use Rattle.ground.specs.Choice.{pick}
 use Rattle.detectors.specs.Status.{channel_of, detector_of}
 use Rattle.detectors.specs.Promises.{Inside, sum_to, Examples}
-use Rattle.detectors.specs.declared.First.TheVariants.{Nobody}
 use Rattle.sounder.specs.Judging.{status_of, asked_of}
 use Rattle.sounder.specs.Promises as Sounder
 use Rattle.sounder.specs.Promises.{Out, Lowest, Framing, Says}
@@ -59,8 +58,8 @@ module _ (leaps ws : List ℕ) where
     pub count : (status_of leaps ws).suspects ≡ sum_to 19 (λ c. sum_to 4 (λ d. pick (is_suspect (suc c) (suc d)) 1 0))
     -- the first in numbers, which are zeros where none is
     pub first : let f = (status_of leaps ws).first in (NoneSuspect × (channel_of f ≡ 0) × (detector_of f ≡ 0)) ⊎ FirstSuspect (channel_of f) (detector_of f)
-    pub nobody : ((status_of leaps ws).first ≡ Nobody) ↔ NoneSuspect
-    pub none_counted : ((status_of leaps ws).first ≡ Nobody) ↔ ((status_of leaps ws).suspects ≡ 0)
+    pub nobody : ((status_of leaps ws).first ≡ None) ↔ NoneSuspect
+    pub none_counted : ((status_of leaps ws).first ≡ None) ↔ ((status_of leaps ws).suspects ≡ 0)
 
 pub record Status : Type 0 where
   pub refusing : Refusing
