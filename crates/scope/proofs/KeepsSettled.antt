@@ -199,7 +199,7 @@ settled =
       );
       watch = (
         λ _ _ x y. (told_once watch_answer.told_begun (λ a. a.number) (λ a. a.watch) (λ v. refl) (λ r. refl) (λ v. refl) x.allowed y.allowed, refl),
-        λ _ given x y. (stepped_once given.w x.allowed y.allowed, refl),
+        λ _ given x y. (stepped_once given.0 x.allowed y.allowed, refl),
         λ _ _ x y. (judged_once x.allowed.1 y.allowed.1, λ i. (same x.allowed.0 y.allowed.0 i, (tt, (tt, (tt, (tt, tt)))))),
       );
       recording = (
@@ -212,7 +212,7 @@ settled =
       salvaging =
           λ _ _ x y. (
             told_once salvage_answer.told (λ a. a.number) (λ a. record { bytes = a.bytes; entries = a.entries; blocks = a.blocks }) (λ v. refl) (λ r. refl) (λ v. refl)
-            x.allowed.0 y.allowed.0,
+                x.allowed.0 y.allowed.0,
             λ i. (tt, (same x.allowed.1.0 y.allowed.1.0 i, (same x.allowed.1.1.0 y.allowed.1.1.0 i, (same x.allowed.1.1.1 y.allowed.1.1.1 i, tt)))),
           );
       text = (
