@@ -1,5 +1,6 @@
 -- The C functions answer what the library does: by their contracts, with the laws of numbers that are cut where C gives one.
 -- Assumes nothing.
+use Rattle.std.specs.Prelude.{Option, Some, None}
 use Prim.Native.Nat.{ℕ, ◌*◌, ◌^◌, ◌≤◌, ◌<◌}
 use native.Mathlib.Omega.{arith}
 use mathlib.Core.Path.{◌≡◌, refl, sym, ap, ◌∙◌, subst}
@@ -27,7 +28,7 @@ use Rattle.records.specs.Records.{part_of}
 use Rattle.placement.specs.Placement.{place_of}
 use Rattle.placement.proofs.LawsPlacement.{unknown_block}
 use Rattle.block.specs.Answers.{answer_of, room_after}
-use Rattle.block.specs.declared.Answer.{Answer}
+use Rattle.block.specs.Answers.{Answer}
 use Rattle.parity.specs.Sections.{sections_of}
 use Rattle.parity.specs.declared.Layout.TheVariants.{ImagerSpacelook, SounderSpacelook}
 use Rattle.tag.specs.Digits.{digits_of, decimal, value_of}
@@ -39,12 +40,11 @@ use Rattle.tag.proofs.KeepsTable.{all_differ}
 use Rattle.time.proofs.KeepsTable.{row9, across_leap}
 use Rattle.time.proofs.LawsYears.{quick}
 use Rattle.detectors.specs.Status.{channel_of, detector_of}
-use Rattle.detectors.specs.declared.First.{First}
-use Rattle.detectors.specs.declared.First.TheVariants.{Detector, Nobody}
+use Rattle.detectors.specs.declared.Detector.{Detector}
 use Rattle.sounder.specs.Judging as Sounder
 use Rattle.sounder.specs.Judging.{status_of, asked_of}
-use Rattle.sounder.specs.declared.Status.{Status}
-use Rattle.sounder.specs.declared.Asked.{Asked}
+use Rattle.sounder.specs.Judging.{StatusAnswer}
+use Rattle.sounder.specs.Judging.{Asked}
 use Rattle.sounder.proofs.KeepsSounder.{asking}
 use Rattle.c_sounder.specs.Rows as Rows
 use Rattle.c_sounder.specs.Rows.{fields_in}
@@ -55,9 +55,9 @@ use Rattle.watch_bounds.specs.declared.Watch.{Watch}
 use Rattle.watch.specs.Verdicts.{number_of, kind_of, fill_of, count_of as filled_of}
 use Rattle.watch.specs.Fills.{filled}
 use Rattle.watch.specs.Rules.{idle, expecting, on_good, step_of}
-use Rattle.watch.specs.declared.Stepped.{Stepped}
-use Rattle.watch.specs.declared.Verdict.{Verdict}
-use Rattle.watch.specs.declared.Verdict.TheVariants.{Refused, Stray, Opened, Kept, Closed}
+use Rattle.watch.specs.Rules.{Stepped}
+use Rattle.watch.specs.Verdicts.{Verdict}
+use Rattle.watch.specs.Verdicts.{Refused, Stray, Opened, Kept, Closed}
 use Rattle.watch.proofs.LawsSteps.{stepped}
 use Rattle.watch.proofs.KeepsRules.{beginning}
 use Rattle.recording.specs.Found.{found_at, answered}
@@ -264,19 +264,19 @@ module _ {X : Type 0} (n : ℕ) (a d : X) {answer : ℕ} {x : X} (e : answer ≡
 
 -- ---- the Sounder's status
 
-channel_same : (f : First) → channel_of f ≡ channel f
-channel_same (Detector c d) = refl
-channel_same Nobody = refl
+channel_same : (f : Option Detector) → channel_of f ≡ channel f
+channel_same (Some d) = refl
+channel_same None = refl
 
-detector_same : (f : First) → detector_of f ≡ detector f
-detector_same (Detector c d) = refl
-detector_same Nobody = refl
+detector_same : (f : Option Detector) → detector_of f ≡ detector f
+detector_same (Some d) = refl
+detector_same None = refl
 
 -- the frame has seven fields, whether the block is refused or not
 seven : (leaps words : List ℕ) → fields_in (status_of leaps words).frame ≡ (status_of leaps words).frame
 unfolding status_of
 seven leaps words =
-    either (λ (s : Status). fields_in s.frame ≡ s.frame) (eqb (Sounder.refusal_of leaps words).number 0) {a = Sounder.accepted_as leaps words} {d = Sounder.refused_as (Sounder.refusal_of leaps words)} (λ _. refl) (λ _. refl)
+    either (λ (s : StatusAnswer). fields_in s.frame ≡ s.frame) (eqb (Sounder.refusal_of leaps words).number 0) {a = Sounder.accepted_as leaps words} {d = Sounder.refused_as (Sounder.refusal_of leaps words)} (λ _. refl) (λ _. refl)
 
 numbers_same : (leaps words : List ℕ) → let s = status_of leaps words in Rows.numbers_of s ≡ s.word ∷ s.suspects ∷ channel s.first ∷ detector s.first ∷ s.raw ∷ s.blocks ∷ s.frame
 numbers_same leaps words =

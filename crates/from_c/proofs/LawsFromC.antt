@@ -34,9 +34,9 @@ use Rattle.watch_bounds.specs.declared.Watch.{Watch}
 use Rattle.watch_bounds.proofs.LawsBounds.{accepted_for, to_ten}
 use Rattle.watch.specs.Fills.{is_fill}
 use Rattle.watch.specs.Rules.{opening, on_idle, on_good, step_of}
-use Rattle.watch.specs.declared.Stepped.{Stepped}
-use Rattle.watch.specs.declared.Verdict.{Verdict}
-use Rattle.watch.specs.declared.Verdict.TheVariants.{Refused, Stray, Opened}
+use Rattle.watch.specs.Rules.{Stepped}
+use Rattle.watch.specs.Verdicts.{Verdict}
+use Rattle.watch.specs.Verdicts.{Refused, Stray, Opened}
 use Rattle.watch.proofs.LawsSteps.{stepped}
 use Rattle.watch.proofs.LawsWords.{same_step}
 use Rattle.recording.specs.Lines.{line_of, room_listed}

@@ -2,7 +2,7 @@
 -- Each answers what the library does for the numbers that C gives, none of them cut to fit a smaller type: 256 is not block 0. What the
 -- library answers is said in the other files of this folder.
 -- Assumes nothing.
-use Rattle.std.specs.Prelude.{ℕ, zero, suc, ◌+◌, ◌*◌, ◌^◌, ◌≤◌, ◌<◌, min, ◌≡◌, ◌⊎◌, Bool, true, false, List, [], ◌∷◌, ◌++◌, map, pos, length, get_or, drop, replicate}
+use Rattle.std.specs.Prelude.{Option, Some, None, ℕ, zero, suc, ◌+◌, ◌*◌, ◌^◌, ◌≤◌, ◌<◌, min, ◌≡◌, ◌⊎◌, Bool, true, false, List, [], ◌∷◌, ◌++◌, map, pos, length, get_or, drop, replicate}
 use contract.Lifetimes.{Lfts}
 use denote.Triple.Entry.{Args, Res}
 use denote.Triple.Clauses.{Ended, Lasts}
@@ -19,15 +19,14 @@ use Rattle.parity.specs.declared.Layout.TheVariants.{ImagerSpacelook, SounderSpa
 use Rattle.tag.specs.Tags.{read_tag, write_tag}
 use Rattle.time.specs.Times.{elapsed_of}
 use Rattle.tag.specs.declared.Tag.{Tag}
-use Rattle.detectors.specs.declared.First.{First}
-use Rattle.detectors.specs.declared.First.TheVariants.{Detector, Nobody}
+use Rattle.detectors.specs.declared.Detector.{Detector}
 use Rattle.sounder.specs.Judging.{status_of, asked_of}
 use Rattle.watch_rule.specs.declared.Closing.TheVariants.{ClockBack, Late, Broken, Complete}
 use Rattle.watch_bounds.specs.declared.Watch.{Watch}
 use Rattle.watch.specs.Verdicts.{number_of, fill_of, count_of}
 use Rattle.watch.specs.Rules.{step_of}
-use Rattle.watch.specs.declared.Verdict.{Verdict}
-use Rattle.watch.specs.declared.Verdict.TheVariants.{Refused, Stray, Opened, Kept, Closed}
+use Rattle.watch.specs.Verdicts.{Verdict}
+use Rattle.watch.specs.Verdicts.{Refused, Stray, Opened, Kept, Closed}
 use Rattle.recording.specs.Found.{found_at}
 use Rattle.recording.specs.declared.Found.{Found}
 use Rattle.recording.specs.declared.Found.TheVariants.{Whole, Cut, End}
@@ -116,13 +115,13 @@ abbrev pub watch_at : List ℕ → Watch
 watch_at row = record { opened = is_on (get_or row 0 0); expected = get_or row 1 0; last = time_at 2 row; limit = get_or row 9 0; fill = get_or row 10 0 }
 
 -- the first suspect detector in numbers, which are zeros where there is none
-abbrev pub channel : First → ℕ
-channel (Detector c d) = c
-channel Nobody = 0
+abbrev pub channel : Option Detector → ℕ
+channel (Some d) = d.channel
+channel None = 0
 
-abbrev pub detector : First → ℕ
-detector (Detector c d) = d
-detector Nobody = 0
+abbrev pub detector : Option Detector → ℕ
+detector (Some d) = d.number
+detector None = 0
 
 -- what an offer did
 abbrev pub code : Verdict → ℕ
