@@ -3,6 +3,7 @@
 use mathlib.Core.Path.{◌≡◌, refl, sym, ap, subst}
 use mathlib.Core.Bool.{Bool, true, false, ◌||◌}
 use mathlib.Core.List.{List}
+use Rattle.std.specs.Prelude.{Result, Ok, Err, IfOk}
 use mathlib.Core.Logic.{◌⊎◌, inl, inr}
 use Prim.Native.Nat.{ℕ, ◌*◌, ◌≤◌}
 use native.Mathlib.Omega.{arith}
@@ -10,11 +11,13 @@ use borrow.Author.Tests.{le-ltb}
 use lib.Dec.{eqb}
 use lib.ListN.{length, drop, length-append}
 use Rattle.ground.specs.Choice.{pick}
+use Rattle.ground.specs.declared.Refusal.{Refusal}
+use Rattle.ground.specs.Refusals.{number_in}
 use Rattle.ground.proofs.LawsTests.{never}
 use Rattle.row.specs.Promises.{most_words}
 use Rattle.salvaging.specs.declared.Salvaged.{Salvaged}
 use Rattle.salvaging.specs.Pieces.{pieces_of, recording_of, report_of}
-use Rattle.salvaging.specs.Answers.{bytes_for, numbers_for, small_rooms, no_block, refusal_of, refused_salvaged, done_salvaged, salvaged_of, ahead, recording_after, report_after}
+use Rattle.salvaging.specs.Answers.{SalvageAnswer, told, bytes_for, numbers_for, small_rooms, no_block, refusal_of, refused_salvaged, done_salvaged, salvaged_of, ahead, recording_after, report_after}
 use Rattle.salvaging.proofs.KeepsSearch.{room_suffices}
 
 rooms : (n m r w : ℕ) → n ≤ 65000 → bytes_for 65000 ≤ m → numbers_for 65000 ≤ r → most_words ≤ w → small_rooms n m r w ≡ false
@@ -59,16 +62,21 @@ entries_in input m report w = by (eqb (refusal_of input m (length report) w) 0)
     by false = omega arith
 
 -- what the program asks of a salvage
-pub in_rooms : (input recording report : List ℕ) (w : ℕ) {made : Salvaged} {recording' report' : List ℕ}
+pub in_rooms : (input recording report : List ℕ) (w : ℕ) (made : Result Salvaged Refusal) {recording' report' : List ℕ}
     → length input ≤ 65000 → bytes_for 65000 ≤ length recording → numbers_for 65000 ≤ length report → most_words ≤ w
-    → made ≡ salvaged_of input (length recording) (length report) w
+    → told made ≡ salvaged_of input (length recording) (length report) w
     → recording' ≡ recording_after input recording (length report) w
     → report' ≡ report_after input (length recording) report w
-    → ((made.number ≡ 0) ⊎ (made.number ≡ 18)) × ((made.bytes ≤ length recording') × (made.entries * 3 ≤ length report'))
-in_rooms input recording report w {made} {recording'} {report'} short bytes numbers words e f g = (
-  subst (λ (a : Salvaged). (a.number ≡ 0) ⊎ (a.number ≡ 18)) (sym e) (one_of_two input (length recording) (length report) w short bytes numbers words),
-  (
-    omega (arith, ap (λ (a : Salvaged). a.bytes) e, ap length f, bytes_in input recording (length report) w),
-    omega (arith, ap (λ (a : Salvaged). a.entries) e, ap length g, entries_in input (length recording) report w),
-  ),
-)
+    → ((number_in made ≡ 0) ⊎ (number_in made ≡ 18)) × (IfOk made (λ s. s.bytes ≤ length recording') × IfOk made (λ s. s.entries * 3 ≤ length report'))
+in_rooms input recording report w made {recording'} {report'} short bytes numbers words e f g = by made e
+  where
+    by : (made : Result Salvaged Refusal) → told made ≡ salvaged_of input (length recording) (length report) w
+        → ((number_in made ≡ 0) ⊎ (number_in made ≡ 18)) × (IfOk made (λ s. s.bytes ≤ length recording') × IfOk made (λ s. s.entries * 3 ≤ length report'))
+    by (Ok s) e = (
+      inl refl,
+      (
+        omega (arith, ap (λ (a : SalvageAnswer). a.bytes) e, ap length f, bytes_in input recording (length report) w),
+        omega (arith, ap (λ (a : SalvageAnswer). a.entries) e, ap length g, entries_in input (length recording) report w),
+      ),
+    )
+    by (Err r) e = (subst (λ (a : SalvageAnswer). (a.number ≡ 0) ⊎ (a.number ≡ 18)) (sym e) (one_of_two input (length recording) (length report) w short bytes numbers words), (tt, tt))

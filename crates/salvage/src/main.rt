@@ -2,11 +2,13 @@
 // output a report of every block and of every span skipped. What is found, and the text of the report, are the library's.
 #![tactic(auto)]
 
-ghost use Rattle.std.specs.Prelude.{◌≡◌, ◌⊎◌, ◌++◌, ◌*◌, ◌<◌, ◌≤◌, IfSome, length, take};
+ghost use Rattle.std.specs.Prelude.{◌≡◌, ◌⊎◌, ◌++◌, ◌*◌, ◌<◌, ◌≤◌, IfOk, IfSome, length, take};
+ghost use Rattle.ground.specs.Refusals.{number_in};
 ghost use Rattle.row.specs.Promises.{most_words};
 ghost use Rattle.salvaging.specs.Answers.{bytes_for, numbers_for};
 ghost use Rattle.text.specs.Texts.{bytes_of};
 
+use ground::Refusal;
 use report::LINE_BYTES;
 use row::MOST_WORDS;
 use salvaging::{ENTRY_NUMBERS, Salvaged};
@@ -137,7 +139,6 @@ fn deliver(
     report: &[usize],
     names: Names,
 ) -> Result<(), Failure>
-    requires number_value { salvaged.number ≡ 0 }
     requires bytes_in_bounds { salvaged.bytes ≤ length recording.now }
     requires entries_in_bounds { salvaged.entries * 3 ≤ length report.now }
 {
@@ -154,14 +155,14 @@ fn salvage_in(
     recording: &mut [u8],
     report: &mut [usize],
     scratch: &mut [u16],
-) -> Salvaged
+) -> Result<Salvaged, Refusal>
     requires input_len_bound { length input.now ≤ 65000 }
     requires bytes_for_in_bounds { bytes_for 65000 ≤ length recording.old }
     requires numbers_for_in_bounds { numbers_for 65000 ≤ length report.old }
     requires most_words_in_bounds { most_words ≤ length scratch.old }
-    ensures fact { (result.number ≡ 0) ⊎ (result.number ≡ 18) }
-    ensures bytes_in_bounds { result.bytes ≤ length recording.new }
-    ensures entries_in_bounds { result.entries * 3 ≤ length report.new }
+    ensures fact { (number_in result ≡ 0) ⊎ (number_in result ≡ 18) }
+    ensures bytes_in_bounds { IfOk result (λ salvaged. salvaged.bytes ≤ length recording.new) }
+    ensures entries_in_bounds { IfOk result (λ salvaged. salvaged.entries * 3 ≤ length report.new) }
 {
     salvaging::salvage(input, recording, report, scratch)
 }
@@ -172,12 +173,10 @@ fn salvage_bytes(rt: &HostRuntime, input: &[u8], names: Names) -> Result<(), Fai
     let mut recording = [0u8; RECORDING_BYTES];
     let mut report = [0usize; REPORT_NUMBERS];
     let mut scratch = [0u16; MOST_WORDS];
-    let salvaged = salvage_in(input, &mut recording, &mut report, &mut scratch);
-    if salvaged.number == ground::NO_BLOCK {
-        rt.write_all(b"no block\n")?;
-        return Ok(());
+    match salvage_in(input, &mut recording, &mut report, &mut scratch) {
+        Ok(salvaged) => deliver(rt, salvaged, &recording, &report, names),
+        Err(_) => Ok(rt.write_all(b"no block\n")?),
     }
-    deliver(rt, salvaged, &recording, &report, names)
 }
 
 // Reading stopped because there is no more. A failure looks the same from outside: one read more tells.

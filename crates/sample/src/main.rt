@@ -115,9 +115,7 @@ fn at(day: u16, ms: u32) -> Tag
 // The eight bytes of a time. One leap day is lent, and on no other is second 60 a good one.
 fn bytes_of(time: Tag) -> [u8; 8] {
     let leap_days = [2008000 + LEAP_DAY as u32];
-    let written = tag::write_tag(time, &leap_days);
-    let bytes = written.bytes;
-    bytes
+    tag::write_tag(time, &leap_days).unwrap_or([0; 8])
 }
 
 // A header: block id, word size, word count, version, whether data is marked valid, and the SPS time.
@@ -160,8 +158,7 @@ fn make(block: Block, words: &[u16], room: &mut [u8]) -> usize
     if words.len() < end {
         return 0;
     }
-    let written = writer::write(&header, &words[..end], room);
-    written.bytes
+    writer::write(&header, &words[..end], room).unwrap_or(0)
 }
 
 fn turn_over(room: &mut [u8], at: usize, bit: u8) {

@@ -8,7 +8,7 @@ returns-clause-fact c =
     let a = c.args in
     let asked = c.requires in
     let found = c.salvage.ensures in
-    (in_rooms a.input.now a.recording.now a.report.now (length a.scratch.now)
+    (in_rooms a.input.now a.recording.now a.report.now (length a.scratch.now) c.salvage.result
     asked.input_len_bound asked.bytes_for_in_bounds asked.numbers_for_in_bounds asked.most_words_in_bounds
     found.value found.recording_after found.report_after).0
 
@@ -17,7 +17,7 @@ returns-clause-bytes_in_bounds c =
     let a = c.args in
     let asked = c.requires in
     let found = c.salvage.ensures in
-    (in_rooms a.input.now a.recording.now a.report.now (length a.scratch.now)
+    (in_rooms a.input.now a.recording.now a.report.now (length a.scratch.now) c.salvage.result
     asked.input_len_bound asked.bytes_for_in_bounds asked.numbers_for_in_bounds asked.most_words_in_bounds
     found.value found.recording_after found.report_after).1.0
 
@@ -26,6 +26,6 @@ returns-clause-entries_in_bounds c =
     let a = c.args in
     let asked = c.requires in
     let found = c.salvage.ensures in
-    (in_rooms a.input.now a.recording.now a.report.now (length a.scratch.now)
+    (in_rooms a.input.now a.recording.now a.report.now (length a.scratch.now) c.salvage.result
     asked.input_len_bound asked.bytes_for_in_bounds asked.numbers_for_in_bounds asked.most_words_in_bounds
     found.value found.recording_after found.report_after).1.1
