@@ -40,9 +40,6 @@ module _ (input scratch : List ℕ) (from : ℕ) where
   begins l = record { within = l; kept = refl; same = refl }
 
 module _ {input scratch₀ scratch : List ℕ} {from start : ℕ} (p : Passed input scratch₀ scratch from start) where
-  pub untried : Tried input scratch scratch start 0
-  untried = record { within = omega arith; kept = refl; none = λ j l. absurd (omega arith) }
-
   pub passed_all : length input ≤ start → Finds input from None × (scratch ≡ scratch_found input from scratch₀)
   unfolding scratch_found
   passed_all l =

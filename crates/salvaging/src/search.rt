@@ -20,12 +20,14 @@ pub(crate) fn find(input: &[u8], from: usize, scratch: &mut [u16]) -> Option<Hit
     ensures found { Finds input.now from result }
     ensures scratch_after { scratch.new ≡ scratch_found input.now from scratch.old }
 {
-    for start in from..input.len() {
+    let mut hit = None;
+    'starts: for start in from..input.len() {
         for copy in 0..COPIES {
             if let Some(bytes) = made::bytes_by(&input[start..], copy, scratch) {
-                return Some(Hit { start, copy, bytes });
+                hit = Some(Hit { start, copy, bytes });
+                break 'starts;
             }
         }
     }
-    None
+    hit
 }
