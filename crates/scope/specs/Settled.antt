@@ -1,4 +1,4 @@
--- Every public function, and that its contract settles its outcome. Assumes nothing.
+-- Every public function but those that ask the system, and that its contract settles its outcome. Assumes nothing.
 use Rattle.std.specs.Prelude.{◌≡◌}
 use Rattle.ground.specs.contracts.Refusal.number
 use Rattle.ground.proofs.Refusal.number.Reads as number_reads
