@@ -66,12 +66,9 @@ module _ {field : List ℕ} {size count : ℕ} {room₀ room : List ℕ} {at i :
           long = length_laid room i ws (omega (arith, s.long, j)) ∙ s.long;
         }
 
-    -- the same, where the room is known to equal that one, and the size a number
-    pub turn : {n : ℕ} {room' : List ℕ} → size ≡ n → room' ≡ laid room i (words n 16 (sent (drop at field)))
-        → State field size count room₀ room' 0 0 (at + size * 2) (i + 16)
-    turn e r =
-        subst (λ (l : List ℕ). State field size count room₀ l 0 0 (at + size * 2) (i + 16))
-        (sym (r ∙ ap (λ (n : ℕ). laid room i (words n 16 (sent (drop at field)))) (sym e))) next
+    -- the same, where the room is known to equal that one
+    pub turn : {room' : List ℕ} → room' ≡ laid room i (words size 16 (sent (drop at field))) → State field size count room₀ room' 0 0 (at + size * 2) (i + 16)
+    turn r = subst (λ (l : List ℕ). State field size count room₀ l 0 0 (at + size * 2) (i + 16)) (sym r) next
 
   -- the words that are left stand in the room's part from i on
   pub ends : (ws : List ℕ) → count ≤ length room₀

@@ -8,7 +8,6 @@ ghost use Rattle.bits.specs.Fields.{words_of};
 ghost use Rattle.taking.specs.Halves.{low_bits};
 
 use crate::each::take_each;
-use bits::fitting::{SIX, TEN};
 
 // The eight bytes of the field from `at` on as a number, the first one highest: a group, and the bytes behind it that come with the load. For
 // a compiler this is one load and one turn; `first_chunk` and `copy_from_slice` leave tests in it, and a turn then stays out of its loop.
@@ -89,26 +88,21 @@ fn take_sixteen(field: &[u8], at: usize, size: usize, room: &mut [u16], i: usize
 }
 
 // The first `count` words, sixteen a turn. A turn reads eight bytes from its fourth group on, and `least` words have so many; the last words,
-// fewer than those, are taken one by one. In each arm the size is a constant: a compiler makes a loop of shifts by constants for each.
-pub(crate) fn take_groups(field: &[u8], size: usize, count: usize, room: &mut [u16])
-    requires fact { (size ≡ 6) ⊎ (size ≡ 10) }
-    requires size_in_bounds { count * size ≤ length field.now * 8 }
+// fewer than those, are taken one by one. The size is a constant: a compiler makes a loop of shifts by constants for each.
+pub(crate) fn take_groups<const SIZE: u8>(field: &[u8], count: usize, room: &mut [u16])
+    requires fact { (SIZE ≡ 6) ⊎ (SIZE ≡ 10) }
+    requires size_in_bounds { count * SIZE ≤ length field.now * 8 }
     requires count_in_bounds { count ≤ length room.old }
-    ensures { room.new ≡ words_of size count field.now ++ drop count room.old }
+    ensures { room.new ≡ words_of SIZE count field.now ++ drop count room.old }
 {
+    let size = SIZE as usize;
     let least = 13 + 56 / size;
     let mut at: usize = 0;
     let mut i: usize = 0;
     while count - i >= least {
-        if size == TEN as usize {
-            take_sixteen(field, at, TEN as usize, room, i);
-            at += size * 2;
-            i += 16;
-        } else {
-            take_sixteen(field, at, SIX as usize, room, i);
-            at += size * 2;
-            i += 16;
-        }
+        take_sixteen(field, at, size, room, i);
+        at += size * 2;
+        i += 16;
     }
     take_each(&field[at..], size, count - i, &mut room[i..]);
 }

@@ -20,7 +20,8 @@ fn take_fitting(field: &[u8], size: u8, count: usize, room: &mut [u16])
     ensures { room.new ≡ words_of size count field.now ++ drop count room.old }
 {
     match size {
-        SIX | TEN => groups::take_groups(field, size as usize, count, room),
+        SIX => groups::take_groups::<SIX>(field, count, room),
+        TEN => groups::take_groups::<TEN>(field, count, room),
         EIGHT => bytes::take_bytes(field, count, room),
         _ => each::take_each(field, size as usize, count, room),
     }

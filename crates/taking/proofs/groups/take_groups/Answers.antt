@@ -1,5 +1,4 @@
--- `taking::groups::take_groups` meets its contract: each turn keeps the state of EachTurns, in either arm, and
--- `take_each` takes what is left.
+-- `taking::groups::take_groups` meets its contract: each turn keeps the state of EachTurns, and `take_each` takes what is left.
 -- Assumes nothing.
 use mathlib.Core.Path.{◌∙◌}
 use Prim.Native.Nat.{ℕ, ◌+◌, ◌-◌, ◌*◌, ◌/◌, ◌≤◌}
@@ -8,126 +7,80 @@ use native.Mathlib.Omega.{arith}
 use lib.ListN.{length, length-drop}
 use borrow.Rule.Slice.PartMut.{same_len_mid}
 use Rattle.bits.proofs.LawsElements.{to_end}
-use Rattle.bits.proofs.LawsFitting.{Grouped, grouped, not_ten, sixteen_left}
+use Rattle.bits.proofs.LawsFitting.{Grouped, grouped, sixteen_left}
 use Rattle.taking.proofs.EachTurns.{start}
 use Rattle.taking.proofs.GroupTurns.{within, turn, ends}
 use Rattle.taking.proofs.groups.take_groups.Goals as goal
 
 pub nonzero_div-least : goal.nonzero_div-least
-nonzero_div-least c = omega (arith, (grouped c.requires.fact).least)
+nonzero_div-least g c = omega (arith, (grouped c.requires.fact).least)
 
 pub overflow_add-least : goal.overflow_add-least
-overflow_add-least c = omega (arith, div-le_self 56 c.args.size)
+overflow_add-least g c = omega (arith, div-le_self 56 g.row.SIZE)
 
 pub loop-i-init : goal.loop-i-init
-loop-i-init c = start _ _ _ _ c.requires.size_in_bounds (omega (arith, (grouped c.requires.fact).least))
+loop-i-init g c = start _ _ _ _ c.requires.size_in_bounds (omega (arith, (grouped c.requires.fact).least))
 
 pub overflow_sub-count : goal.overflow_sub-count
-overflow_sub-count c = c.loop-i.invariant.done
+overflow_sub-count g c = c.loop-i.invariant.done
 
 -- the bytes of a turn are there
 after : (at size n : ℕ) → Grouped size → at + size / 2 * 3 + 8 ≤ n → at + size * 2 ≤ n
 after at size n g h = omega (arith, g.most, g.even)
 
 pub take_sixteen-requires : goal.take_sixteen-requires
-take_sixteen-requires c = record {
-  le_size = (omega arith, omega arith);
-  size_value = omega arith;
-  size_in_bounds = omega (arith, c.if-size.true, within c.loop-i.invariant (grouped c.requires.fact) c.loop-i-test.true);
+take_sixteen-requires g c = record {
+  le_size = (omega (arith, (grouped c.requires.fact).least), omega (arith, (grouped c.requires.fact).most));
+  size_value = (grouped c.requires.fact).even;
+  size_in_bounds = within c.loop-i.invariant (grouped c.requires.fact) c.loop-i-test.true;
   i_in_bounds = omega (
     arith,
     c.loop-i.invariant.long,
     c.requires.count_in_bounds,
-    sixteen_left c.args.size _
+    sixteen_left g.row.SIZE _
         (grouped c.requires.fact) c.loop-i-test.true,
   );
 }
 
 pub overflow_mul-at : goal.overflow_mul-at
-overflow_mul-at c =
+overflow_mul-at g c =
     omega (
       arith,
-      after c.loop-i.at c.args.size _ (grouped c.requires.fact)
+      after c.loop-i.at g.row.SIZE _ (grouped c.requires.fact)
           (within c.loop-i.invariant (grouped c.requires.fact) c.loop-i-test.true),
     )
 
 pub overflow_add-at : goal.overflow_add-at
-overflow_add-at c =
+overflow_add-at g c =
     omega (
       arith,
-      after c.loop-i.at c.args.size _ (grouped c.requires.fact)
+      after c.loop-i.at g.row.SIZE _ (grouped c.requires.fact)
           (within c.loop-i.invariant (grouped c.requires.fact) c.loop-i-test.true),
     )
 
 pub overflow_add-i : goal.overflow_add-i
-overflow_add-i c = omega (arith, sixteen_left c.args.size _ (grouped c.requires.fact) c.loop-i-test.true)
-
-pub loop-i-smaller-then-size : goal.loop-i-smaller-then-size
-loop-i-smaller-then-size c = omega (arith, sixteen_left c.args.size _ (grouped c.requires.fact) c.loop-i-test.true)
-
-pub loop-i-preserved-then-size : goal.loop-i-preserved-then-size
-loop-i-preserved-then-size c =
-    turn c.loop-i.invariant (grouped c.requires.fact) c.loop-i-test.true c.requires.count_in_bounds c.if-size.true c.take_sixteen.ensures
-
-pub take_sixteen-requires-else-size : goal.take_sixteen-requires-else-size
-take_sixteen-requires-else-size c = record {
-  le_size = (omega arith, omega arith);
-  size_value = omega arith;
-  size_in_bounds = omega (
-    arith,
-    not_ten c.requires.fact c.if-size.false,
-    within c.loop-i.invariant
-        (grouped c.requires.fact) c.loop-i-test.true,
-  );
-  i_in_bounds = omega (
-    arith,
-    c.loop-i.invariant.long,
-    c.requires.count_in_bounds,
-    sixteen_left c.args.size _
-        (grouped c.requires.fact) c.loop-i-test.true,
-  );
-}
-
-pub overflow_mul-at-else-size : goal.overflow_mul-at-else-size
-overflow_mul-at-else-size c =
-    omega (
-      arith,
-      after c.loop-i.at c.args.size _ (grouped c.requires.fact)
-          (within c.loop-i.invariant (grouped c.requires.fact) c.loop-i-test.true),
-    )
-
-pub overflow_add-at-else-size : goal.overflow_add-at-else-size
-overflow_add-at-else-size c =
-    omega (
-      arith,
-      after c.loop-i.at c.args.size _ (grouped c.requires.fact)
-          (within c.loop-i.invariant (grouped c.requires.fact) c.loop-i-test.true),
-    )
-
-pub overflow_add-i-else-size : goal.overflow_add-i-else-size
-overflow_add-i-else-size c = omega (arith, sixteen_left c.args.size _ (grouped c.requires.fact) c.loop-i-test.true)
+overflow_add-i g c = omega (arith, sixteen_left g.row.SIZE _ (grouped c.requires.fact) c.loop-i-test.true)
 
 pub loop-i-smaller : goal.loop-i-smaller
-loop-i-smaller c = omega (arith, sixteen_left c.args.size _ (grouped c.requires.fact) c.loop-i-test.true)
+loop-i-smaller g c = omega (arith, sixteen_left g.row.SIZE _ (grouped c.requires.fact) c.loop-i-test.true)
 
 pub loop-i-preserved : goal.loop-i-preserved
-loop-i-preserved c =
-    turn c.loop-i.invariant (grouped c.requires.fact) c.loop-i-test.true c.requires.count_in_bounds
-    (not_ten c.requires.fact c.if-size.false) c.take_sixteen-else-size.ensures
+loop-i-preserved g c =
+    turn c.loop-i.invariant (grouped c.requires.fact) c.loop-i-test.true c.requires.count_in_bounds c.take_sixteen.ensures
 
 pub take_each-requires : goal.take_each-requires
-take_each-requires c =
-    let g = grouped c.requires.fact in
+take_each-requires g c =
+    let sizes = grouped c.requires.fact in
     record {
-      le_size = (omega (arith, g.least), omega (arith, g.most));
+      le_size = (omega (arith, sizes.least), omega (arith, sizes.most));
       size_in_bounds = simp (to_end, length-drop) (omega arith);
       count_in_bounds = simp (to_end, length-drop) (omega arith);
     }
 
 pub shape_of-room : goal.shape_of-room
-shape_of-room c =
+shape_of-room g c =
     let l = c.loop-i in
     same_len_mid l.i (length l.room - l.i) l.room c.take_each.new.room c.take_each.auto.room ∙ l.invariant.long
 
 pub returns : goal.returns
-returns c = ends c.loop-i.invariant _ c.requires.count_in_bounds c.take_each.ensures
+returns g c = ends c.loop-i.invariant _ c.requires.count_in_bounds c.take_each.ensures
