@@ -100,12 +100,9 @@ module _ {ws : List ℕ} {size : ℕ} {room₀ room : List ℕ} {i at : ℕ} (s 
           long = length_laid room at (field_of size (size / 2 * 3 + 8) sixteen) (omega (arith, within, length_field_of size (size / 2 * 3 + 8) sixteen)) ∙ s.long;
         }
 
-    -- the same, where the room is known to equal that one, and the size a number
-    pub turn : {n : ℕ} {room' : List ℕ} → size ≡ n → room' ≡ laid room at (field_of n (n / 2 * 3 + 8) (take 16 (drop i ws)))
-        → State ws size room₀ room' (i + 16) (at + size * 2)
-    turn e r =
-        subst (λ (l : List ℕ). State ws size room₀ l (i + 16) (at + size * 2))
-        (sym (r ∙ ap (λ (n : ℕ). laid room at (field_of n (n / 2 * 3 + 8) (take 16 (drop i ws)))) (sym e))) next
+    -- the same, where the room is known to equal that one
+    pub turn : {room' : List ℕ} → room' ≡ laid room at (field_of size (size / 2 * 3 + 8) (take 16 (drop i ws))) → State ws size room₀ room' (i + 16) (at + size * 2)
+    turn r = subst (λ (l : List ℕ). State ws size room₀ l (i + 16) (at + size * 2)) (sym r) next
 
   -- the words that are left are put into the room's part from `at` on
   pub ends : (bytes : List ℕ) → bytes ≡ field_of size (length (take (length room - at) (drop at room))) (take (length ws - i) (drop i ws))

@@ -8,7 +8,6 @@ ghost use Rattle.bits.specs.Fields.{field_of};
 
 use crate::each::put_plain;
 use crate::eight::put_eight;
-use bits::fitting::{SIX, TEN};
 
 // The bits of four words from `i` on, at the high end of a number, and zeros behind them.
 fn joined(words: &[u16], i: usize, size: usize) -> u64
@@ -55,26 +54,21 @@ fn put_sixteen(words: &[u16], i: usize, size: usize, field: &mut [u8], at: usize
 }
 
 // All words, sixteen a turn. A turn writes eight bytes from its fourth group on, and `least` words need so many; the last words, fewer than
-// those, are put one by one, over what the last turn wrote too far. In each arm the size is a constant, as in `taking`.
-pub(crate) fn put_groups(words: &[u16], size: usize, field: &mut [u8])
-    requires fact { (size ≡ 6) ⊎ (size ≡ 10) }
-    requires size_in_bounds { length words.now * size ≤ length field.old * 8 }
-    requires below { Below (2 ^ size) words.now }
-    ensures { field.new ≡ field_of size (length field.old) words.now }
+// those, are put one by one, over what the last turn wrote too far. The size is a constant, as in `taking`.
+pub(crate) fn put_groups<const SIZE: u8>(words: &[u16], field: &mut [u8])
+    requires fact { (SIZE ≡ 6) ⊎ (SIZE ≡ 10) }
+    requires size_in_bounds { length words.now * SIZE ≤ length field.old * 8 }
+    requires below { Below (2 ^ SIZE) words.now }
+    ensures { field.new ≡ field_of SIZE (length field.old) words.now }
 {
+    let size = SIZE as usize;
     let least = 13 + 56 / size;
     let mut i: usize = 0;
     let mut at: usize = 0;
     while words.len() - i >= least {
-        if size == TEN as usize {
-            put_sixteen(words, i, TEN as usize, field, at);
-            i += 16;
-            at += size * 2;
-        } else {
-            put_sixteen(words, i, SIX as usize, field, at);
-            i += 16;
-            at += size * 2;
-        }
+        put_sixteen(words, i, size, field, at);
+        i += 16;
+        at += size * 2;
     }
     put_plain(&words[i..], size, &mut field[at..]);
 }

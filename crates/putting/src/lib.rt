@@ -25,7 +25,8 @@ fn put_fitting(words: &[u16], size: u8, field: &mut [u8])
     ensures { field.new ≡ field_of size (length field.old) words.now }
 {
     match size {
-        SIX | TEN => groups::put_groups(words, size as usize, field),
+        SIX => groups::put_groups::<SIX>(words, field),
+        TEN => groups::put_groups::<TEN>(words, field),
         EIGHT => bytes::put_bytes(words, field),
         _ => each::put_plain(words, size as usize, field),
     }
