@@ -7,7 +7,7 @@ pub(crate) fn take_bytes(field: &[u8], count: usize, room: &mut [u16])
     requires count_in_bounds_2 { count ≤ length room.old }
     ensures { room.new ≡ words_of 8 count field.now ++ drop count room.old }
 {
-    for i in 0..count {
-        room[i] = u16::from(field[i]);
+    for (i, byte) in field[..count].iter().enumerate() {
+        room[i] = u16::from(*byte);
     }
 }
