@@ -2,22 +2,24 @@
 -- 16 shown further on, x^1024 = x^768 + x^320 + 1, tested at the 64 powers of two.
 -- Assumes nothing.
 use mathlib.Core.Path.{◌≡◌, refl, sym, ap, ap₂, ◌∙◌, subst, subst⁻¹}
-use mathlib.Core.List.{List, [], ◌∷◌, ◌++◌}
+use mathlib.Core.List.{List, [], ◌∷◌, ◌++◌, map}
 use Prim.Native.Nat.{ℕ, zero, suc, ◌+◌, ◌-◌, ◌*◌, ◌/◌, ◌%◌, ◌^◌, ◌<◌, ◌≤◌}
-use native.Mathlib.Nat.{mod-lt, add-zero, lt_of_lt_of_le}
+use native.Mathlib.Nat.{mod-lt, add-zero, zero-add, lt_of_lt_of_le}
 use native.Mathlib.Omega.{arith}
 use lib.Dec.{T}
 use Rattle.std.specs.Int.{to_le_bytes, from_le_bytes, swap_bytes, w64}
 use Rattle.std.specs.Simd.{first_chunks}
 use Rattle.std.proofs.lemmas.Nat.{le_bytes_8}
 use Rattle.std.proofs.lemmas.List.{drop-drop, drop-take, take-take}
+use Rattle.std.proofs.lemmas.List.FromFn.{fill_by_all}
+use Rattle.std.specs.List.{range_with_len}
 use lib.ListN.{length, get_or, take, drop}
+use Rattle.std.specs.Prelude.{slice_index}
 use lib.Pow.{pow_pos, pow_mono}
 use lib.Bits.{bit_xor, xor_lt, xor_comm, xor_zero_r, xor_shifted}
 use Rattle.bits.specs.Bits.{Below}
 use Rattle.check_eight.specs.Eight.{big, folded, joined, Stands}
-use Rattle.check_window.specs.Turn.{byte_at, mirror, mirrors, shown, push, pushes, horner, chunks}
-use Rattle.check_window.specs.declared.Window.{Window}
+use Rattle.check_window.specs.Turn.{byte_at, mirror, mirrors, push, pushes, horner, chunks}
 use Rattle.check_rule.proofs.LawsXor.{xor_assoc}
 use Rattle.check_eight.proofs.LawsLinear.{Linear, by_basis, agree, id_linear, then_linear, sum_linear, shr_linear, mod_linear, shl_linear}
 use Rattle.check_eight.proofs.LawsEight.{folded_linear, starts, big_lt, chunk_at, stands_next}
@@ -159,14 +161,24 @@ mirror_bytes p r n low e = mirror_big r ∙ ap big (le_bytes_8 p r n low e)
 
 -- ---- the turn
 
-push_step : (w : Window) (d : ℕ) → horner 0 (shown (push w d)) ≡ horner 0 (mirrors (w.s0 ∷ w.s1 ∷ w.s2 ∷ w.s3 ∷ w.s4 ∷ w.s5 ∷ w.s6 ∷ w.s7 ∷ w.s8 ∷ w.s9 ∷ w.s10 ∷ w.s11 ∷ w.s12 ∷ w.s13 ∷ w.s14 ∷ w.s15 ∷ d ∷ []))
-push_step w d =
-    rw (mirror_linear w.s4 w.s0, mirror_linear w.s11 w.s0, mirror_linear d w.s0)
-    (push_list (mirror w.s0) (mirror w.s1) (mirror w.s2) (mirror w.s3) (mirror w.s4) (mirror w.s5) (mirror w.s6) (mirror w.s7) (mirror w.s8) (mirror w.s9) (mirror w.s10) (mirror w.s11) (mirror w.s12) (mirror w.s13) (mirror w.s14) (mirror w.s15) (mirror d) (mirror_lt w.s0))
+-- a list of n elements, written out
+pub written : (n : ℕ) (w : List ℕ) → length w ≡ n → w ≡ map (slice_index w) (range_with_len 0 n)
+written n w long = fill_by_all (slice_index w) w n 0 long (λ k lt. refl)
 
-pub turns : (w : Window) (ds : List ℕ) → horner 0 (shown (pushes w ds)) ≡ horner (horner 0 (shown w)) (mirrors ds)
-turns w [] = refl
-turns w (d ∷ ds) = turns (push w d) ds ∙ ap (λ (x : ℕ). horner x (mirrors ds)) (push_step w d)
+push_step : (w : List ℕ) (d : ℕ) → horner 0 (mirrors (push w d)) ≡ horner (horner 0 (mirrors (map (slice_index w) (range_with_len 0 16)))) (mirrors (d ∷ []))
+push_step w d =
+    rw (mirror_linear (slice_index w 4) (slice_index w 0), mirror_linear (slice_index w 11) (slice_index w 0), mirror_linear d (slice_index w 0))
+    (push_list (mirror (slice_index w 0)) (mirror (slice_index w 1)) (mirror (slice_index w 2)) (mirror (slice_index w 3)) (mirror (slice_index w 4)) (mirror (slice_index w 5)) (mirror (slice_index w 6)) (mirror (slice_index w 7)) (mirror (slice_index w 8)) (mirror (slice_index w 9)) (mirror (slice_index w 10)) (mirror (slice_index w 11)) (mirror (slice_index w 12)) (mirror (slice_index w 13)) (mirror (slice_index w 14)) (mirror (slice_index w 15)) (mirror d) (mirror_lt (slice_index w 0)))
+
+pub pushes_long : (w ds : List ℕ) → length w ≡ 16 → length (pushes w ds) ≡ 16
+pushes_long w [] long = long
+pushes_long w (d ∷ ds) long = pushes_long (push w d) ds refl
+
+pub turns : (w ds : List ℕ) → length w ≡ 16 → horner 0 (mirrors (pushes w ds)) ≡ horner (horner 0 (mirrors w)) (mirrors ds)
+turns w [] long = refl
+turns w (d ∷ ds) long =
+    turns (push w d) ds refl
+    ∙ ap (λ (x : ℕ). horner x (mirrors ds)) (push_step w d ∙ ap (λ (l : List ℕ). joined (horner 0 (mirrors l)) (mirror d)) (sym (written 16 w long)))
 
 -- ---- the bytes
 
@@ -185,21 +197,20 @@ stands_on s i k (suc n) t low h st =
 -- ---- the loop
 
 -- the window w stands for the register after the first i bytes of s
-abbrev pub Holds : List ℕ → ℕ → Window → Type 0
-Holds s i w = Stands 0xFFFF s i (horner 0 (shown w))
+abbrev pub Holds : List ℕ → ℕ → List ℕ → Type 0
+Holds s i w = (length w ≡ 16) × Stands 0xFFFF s i (horner 0 (mirrors w))
 
-abbrev pub empty : Window
-empty = record { s0 = 0; s1 = 0; s2 = 0; s3 = 0; s4 = 0; s5 = 0; s6 = 0; s7 = 0; s8 = 0; s9 = 0; s10 = 0; s11 = 0; s12 = 0; s13 = 0; s14 = 0; s15 = 14953076662776889344 }
-
-pub begins : (s : List ℕ) → Holds s 0 empty
+pub begins : (s : List ℕ) → Holds s 0 (0 ∷ 0 ∷ 0 ∷ 0 ∷ 0 ∷ 0 ∷ 0 ∷ 0 ∷ 0 ∷ 0 ∷ 0 ∷ 0 ∷ 0 ∷ 0 ∷ 0 ∷ 14953076662776889344 ∷ [])
 unfolding joined folded mirror
-begins s = starts s
+begins s = (refl, starts s)
 
-pub goes_on : (n : ℕ) (s : List ℕ) (i : ℕ) (w : Window) (ds : List ℕ) → Below 256 s → i + 8 * (0 + n) ≤ length s → Holds s i w → mirrors ds ≡ chunks s i 0 n
+pub goes_on : (n : ℕ) (s : List ℕ) (i : ℕ) (w ds : List ℕ) → Below 256 s → i + 8 * (0 + n) ≤ length s → Holds s i w → mirrors ds ≡ chunks s i 0 n
     → Holds s (i + 8 * (0 + n)) (pushes w ds)
-goes_on n s i w ds low h st e =
-    subst⁻¹ (Stands 0xFFFF s (i + 8 * (0 + n))) (turns w ds ∙ ap (horner (horner 0 (shown w))) e)
-    (stands_on s i 0 n (horner 0 (shown w)) low h (subst⁻¹ (λ (j : ℕ). Stands 0xFFFF s j (horner 0 (shown w))) (add-zero i) st))
+goes_on n s i w ds low h st e = (
+  pushes_long w ds st.0,
+  subst⁻¹ (Stands 0xFFFF s (i + 8 * (0 + n))) (turns w ds st.0 ∙ ap (horner (horner 0 (mirrors w))) e)
+      (stands_on s i 0 n (horner 0 (mirrors w)) low h (subst⁻¹ (λ (j : ℕ). Stands 0xFFFF s j (horner 0 (mirrors w))) (add-zero i) st.1)),
+)
 
 pub cons : {x y : ℕ} {l m : List ℕ} → x ≡ y → l ≡ m → x ∷ l ≡ y ∷ m
 cons p q = ap₂ (λ (x : ℕ) (l : List ℕ). x ∷ l) p q
@@ -229,3 +240,19 @@ chunks_in m s i k (suc n) h =
 -- a word of a chunk, where the chunk is taken as eights
 pub word_at : (p : List ℕ) (ws : List (List ℕ)) (k : ℕ) → ws ≡ first_chunks 8 (length p / 8) p → k < length p / 8 → big (get_or ws k []) ≡ big (take 8 (drop (k * 8) p))
 word_at p ws k e h = ap big (ap (λ (l : List (List ℕ)). get_or l k []) e ∙ chunk_at 8 (length p / 8) p k h)
+
+next : (k j : ℕ) → k + suc j ≡ suc k + j
+next k j = omega arith
+
+-- words that are those of a string, one by one
+words_are : (n k : ℕ) (s ws : List ℕ) → length ws ≡ n → ((j : ℕ) → j < n → mirror (slice_index ws j) ≡ big (take 8 (drop ((k + j) * 8) s))) → mirrors ws ≡ chunks s 0 k n
+words_are zero k s [] long h = refl
+words_are zero k s (w ∷ ws) long h = absurd (omega (arith, long))
+words_are (suc n) k s [] long h = absurd (omega (arith, long))
+words_are (suc n) k s (w ∷ ws) long h =
+    let here : (k + 0) * 8 ≡ 0 + 8 * k = omega arith in
+    cons (h 0 (omega arith) ∙ ap (λ (j : ℕ). big (take 8 (drop j s))) here)
+    (words_are n (suc k) s ws (omega (arith, long)) (λ j lt. h (suc j) (omega (arith, lt)) ∙ ap (λ (i : ℕ). big (take 8 (drop (i * 8) s))) (next k j)))
+
+pub words_read : (n : ℕ) (s ws : List ℕ) → length ws ≡ n → ((j : ℕ) → j < n → mirror (slice_index ws j) ≡ big (take 8 (drop (j * 8) s))) → mirrors ws ≡ chunks s 0 0 n
+words_read n s ws long h = words_are n 0 s ws long (λ j lt. h j lt ∙ ap (λ (i : ℕ). big (take 8 (drop (i * 8) s))) (sym (zero-add j)))

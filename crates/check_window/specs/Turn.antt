@@ -1,10 +1,9 @@
 -- What the quick way of 128 bytes a turn computes: sixteen words of 64 bits, folded by x^1024 = x^768 + x^320 + 1 modulo the generator.
 -- Nothing here is part of the meaning of the check word.
 -- Assumes nothing.
-use Rattle.std.specs.Prelude.{List, [], ◌∷◌, ℕ, zero, suc, ◌+◌, ◌*◌, ◌/◌, ◌%◌, ◌^◌, take, drop}
+use Rattle.std.specs.Prelude.{List, [], ◌∷◌, ℕ, zero, suc, ◌+◌, ◌*◌, ◌/◌, ◌%◌, ◌^◌, take, drop, slice_index}
 use Rattle.std.specs.Int.Bits.{bit_xor}
 use Rattle.check_eight.specs.Eight.{big, joined}
-use Rattle.check_window.specs.declared.Window.{Window}
 
 -- the byte of x at the bit j, at the bit k
 abbrev pub byte_at : ℕ → ℕ → ℕ → ℕ
@@ -18,18 +17,11 @@ abbrev pub mirrors : List ℕ → List ℕ
 mirrors [] = []
 mirrors (x ∷ xs) = mirror x ∷ mirrors xs
 
--- the words of a window as they stand in it, and as they were sent
-abbrev pub raw : Window → List ℕ
-raw w = w.s0 ∷ w.s1 ∷ w.s2 ∷ w.s3 ∷ w.s4 ∷ w.s5 ∷ w.s6 ∷ w.s7 ∷ w.s8 ∷ w.s9 ∷ w.s10 ∷ w.s11 ∷ w.s12 ∷ w.s13 ∷ w.s14 ∷ w.s15 ∷ []
+-- a word more of a window of sixteen: the first word goes, and is added 4, 11 and 16 words further on
+abbrev pub push : List ℕ → ℕ → List ℕ
+push w d = slice_index w 1 ∷ slice_index w 2 ∷ slice_index w 3 ∷ bit_xor (slice_index w 4) (slice_index w 0) ∷ slice_index w 5 ∷ slice_index w 6 ∷ slice_index w 7 ∷ slice_index w 8 ∷ slice_index w 9 ∷ slice_index w 10 ∷ bit_xor (slice_index w 11) (slice_index w 0) ∷ slice_index w 12 ∷ slice_index w 13 ∷ slice_index w 14 ∷ slice_index w 15 ∷ bit_xor d (slice_index w 0) ∷ []
 
-abbrev pub shown : Window → List ℕ
-shown w = mirrors (raw w)
-
--- a word more: the first word goes, and is added 4, 11 and 16 words further on
-abbrev pub push : Window → ℕ → Window
-push w d = record { s0 = w.s1; s1 = w.s2; s2 = w.s3; s3 = bit_xor w.s4 w.s0; s4 = w.s5; s5 = w.s6; s6 = w.s7; s7 = w.s8; s8 = w.s9; s9 = w.s10; s10 = bit_xor w.s11 w.s0; s11 = w.s12; s12 = w.s13; s13 = w.s14; s14 = w.s15; s15 = bit_xor d w.s0 }
-
-abbrev pub pushes : Window → List ℕ → Window
+abbrev pub pushes : List ℕ → List ℕ → List ℕ
 pushes w [] = w
 pushes w (d ∷ ds) = pushes (push w d) ds
 

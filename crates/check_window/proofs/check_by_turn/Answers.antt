@@ -9,7 +9,7 @@ use Rattle.std.proofs.lemmas.List.{drop-drop, length-take, length-drop}
 use Rattle.check_eight.specs.Eight.{big, check_from}
 use Rattle.check_eight.proofs.LawsEight.{chunk_at, checks}
 use Rattle.bits.proofs.LawsBelow.{below_all}
-use Rattle.check_window.specs.Turn.{raw, mirrors, shown, chunks}
+use Rattle.check_window.specs.Turn.{mirrors, chunks}
 use Rattle.check_window.proofs.LawsTurn.{Holds, begins, goes_on, cons, chunks_in, word_at}
 use Rattle.check_window.proofs.check_by_turn.Goals as goal
 
@@ -29,11 +29,11 @@ loop-bytes-preserved c =
     let e : k * 128 + 128 ≡ (k + 1) * 128 = omega arith in
     let turn : get_or c.as_chunks.result.0.now k [] ≡ take 128 (drop (k * 128) s) =
     ap (λ (t : List (List ℕ)). get_or t k []) c.as_chunks.ensures.front ∙ chunk_at 128 (length s / 128) s k (omega (arith, more, c.loop-bytes-test.true)) in
-    let words : shown c.block.result ≡ chunks s (k * 128) 0 16 =
+    let words : mirrors c.block.result ≡ chunks s (k * 128) 0 16 =
     c.block.ensures ∙ ap (λ (p : List ℕ). chunks p 0 0 16) turn ∙ chunks_in 128 s (k * 128) 0 16 (omega arith) in
-    subst (λ (n : ℕ). Holds s n c.turn-w.result) e
-    (subst⁻¹ (Holds s (k * 128 + 128)) c.turn-w.ensures
-    (goes_on 16 s (k * 128) l.w (raw c.block.result) (below_all 256 s (λ i. (c.type_inv.message i).fits)) h l.invariant words))
+    subst (λ (n : ℕ). Holds s n c.turn-next.result) e
+    (subst⁻¹ (Holds s (k * 128 + 128)) c.turn-next.ensures
+    (goes_on 16 s (k * 128) l.w c.block.result (below_all 256 s (λ i. (c.type_inv.message i).fits)) h l.invariant words))
 
 pub loop-bytes-2-preserved : goal.loop-bytes-2-preserved
 loop-bytes-2-preserved c =
@@ -61,8 +61,8 @@ loop-bytes-2-preserved c =
     cons (c.number_of.ensures ∙ at 0 (omega arith)) (cons (c.number_of-in-loop-bytes-2.ensures ∙ at 1 (omega arith))
     (cons (c.number_of-in-loop-bytes-2-2.ensures ∙ at 2 (omega arith)) (cons (c.number_of-in-loop-bytes-2-3.ensures ∙ at 3 (omega arith)) refl))) in
     let words : mirrors d ≡ chunks s i 0 4 = own ∙ ap (λ (t : List ℕ). chunks t 0 0 4) four ∙ chunks_in 32 s i 0 4 (omega arith) in
-    subst (λ (m : ℕ). Holds s m c.turn4-w.result) e
-    (subst⁻¹ (Holds s (i + 32)) c.turn4-w.ensures
+    subst (λ (m : ℕ). Holds s m c.turn4-next.result) e
+    (subst⁻¹ (Holds s (i + 32)) c.turn4-next.ensures
     (goes_on 4 s i l.w d (below_all 256 s (λ j. (c.type_inv.message j).fits)) h l.invariant words))
 
 pub returns : goal.returns
@@ -74,4 +74,4 @@ returns c =
     let e : n + l.bytes-index * 32 ≡ n + m = omega (arith, c.as_chunks-2.ensures.front_len, c.loop-bytes-2-test.false, l.auto.bytes-index-end) in
     c.check_from.ensures
     ∙ ap₂ check_from c.last.ensures (c.as_chunks-2.ensures.back ∙ ap (drop m) c.as_chunks.ensures.back ∙ drop-drop m n s)
-    ∙ checks s (n + m) _ (subst (λ (i : ℕ). Holds s i l.w) e l.invariant)
+    ∙ checks s (n + m) _ (subst (λ (i : ℕ). Holds s i l.w) e l.invariant).1
