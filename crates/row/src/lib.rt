@@ -33,9 +33,6 @@ const WIDEST: u16 = 5236;
 // The words of the longest block, of four records of the widest scan: so many hold those of any.
 pub const MOST_WORDS: usize = 21008;
 
-// The largest number that an `Infrared` holds.
-const MOST_PIXELS: u32 = 65535;
-
 // The words of line documentation in front of a record's pixels.
 const LINE_WORDS: u32 = 16;
 
@@ -164,11 +161,10 @@ pub fn scan_of(row: Row, words: u32) -> Infrared
         return Infrared(0);
     }
     let rest = words - row.fixed;
-    let n = rest / row.each;
-    if (0 < rest % row.each) | (MOST_PIXELS < n) {
+    if 0 < rest % row.each {
         return Infrared(0);
     }
-    Infrared(n as u16)
+    Infrared(u16::try_from(rest / row.each).unwrap_or(0))
 }
 
 // Whether a row permits a count of words. That of an unknown block has no words and permits none.
@@ -184,7 +180,7 @@ pub fn permits(row: Row, words: u32) -> bool
 fn field_bits(block: u8, words: u32) -> usize
     ensures { result ≡ field_bits block words }
 {
-    if (block == 0) | (block == 11) {
+    if matches!(block, 0 | 11) {
         return FIXED_BITS as usize;
     }
     let bits = words as usize * IMAGE_SIZE as usize;
