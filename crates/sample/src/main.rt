@@ -11,9 +11,9 @@ use std::io;
 use tag::Tag;
 
 // The infrared pixels of the first scan, and of all others.
-const PIXELS: u16 = 100;
+const PIXELS: u8 = 100;
 
-const FEW_PIXELS: u16 = 1;
+const FEW_PIXELS: u8 = 1;
 
 // The bytes of the longest block here, and the words of the one that has most.
 const BLOCK_BYTES: usize = 8132;
@@ -32,12 +32,7 @@ const DATA: u8 = 1;
 
 const FILL: u8 = 0;
 
-// Times are milliseconds behind 23:59:00.000 of one of two days of 2008. The later one, and so the year, ended with a leap second.
-const DAY: u16 = 60;
-
-const LEAP_DAY: u16 = 366;
-
-// Where a scan over midnight begins, behind 23:59:00.000.
+// Where a scan over midnight begins, in milliseconds behind 23:59:00.000.
 const SCAN: u32 = 59500;
 
 const SOUNDER_WORDS: usize = 8040;
@@ -59,7 +54,59 @@ const TAG_COUNT: usize = 15;
 // Which tag is that of the star sense, counted from 0.
 const STAR_SENSE: usize = 10;
 
-// What a block is made of: numbers of its header, and its SPS time.
+// The two days of 2008. The later one, and so the year, ended with a leap second.
+#[derive(Clone, Copy, PartialEq, Eq)]
+enum Day {
+    Common = 60,
+    Leap = 366,
+}
+
+impl Day {
+    // The milliseconds of its last minute.
+    fn last_minute(self) -> u32
+        ensures { result < 61001 }
+    {
+        match self {
+            Day::Common => 60000,
+            Day::Leap => 61000,
+        }
+    }
+}
+
+// A time: so many milliseconds behind 23:59:00.000 of a day.
+#[derive(Clone, Copy)]
+struct Moment {
+    day: Day,
+    ms: u32,
+}
+
+impl Moment {
+    fn later(self, ms: u32) -> Moment {
+        Moment {
+            day: self.day,
+            ms: self.ms.saturating_add(ms),
+        }
+    }
+
+    // Where the minute has 61 seconds, the last of them is second 60.
+    fn tag(self) -> Tag {
+        let end = self.day.last_minute();
+        if end <= self.ms {
+            return behind_midnight(self.day, self.ms - end);
+        }
+        Tag {
+            year: 2008,
+            day: self.day as u16,
+            hour: 23,
+            minute: 59,
+            second: (self.ms / 1000) as u8,
+            ms: (self.ms % 1000) as u16,
+            flywheel: false,
+        }
+    }
+}
+
+// What a block is made of: numbers of its header, and its SPS time. Its words and what else the count in the header counts fit a u16.
 #[derive(Clone, Copy)]
 struct Block {
     id: u8,
@@ -67,24 +114,19 @@ struct Block {
     words: u16,
     version: u8,
     valid: u8,
-    time: Tag,
+    time: Moment,
+    ghost fits: { words < 65534 },
 }
 
-// The milliseconds of the last minute of a day of 2008.
-fn last_minute(day: u16) -> u32
-    ensures { result < 61001 }
-{
-    if day == LEAP_DAY { 61000 } else { 60000 }
-}
-
-// So many milliseconds behind the midnight that ends a day of 2008, in the first hour.
-fn behind_midnight(day: u16, ms: u32) -> Tag
-    requires { day < 367 }
-{
-    let is_last = day == LEAP_DAY;
+// So many milliseconds behind the midnight that ends a day, in the first hour.
+fn behind_midnight(day: Day, ms: u32) -> Tag {
+    let (year, next) = match day {
+        Day::Common => (2008, Day::Common as u16 + 1),
+        Day::Leap => (2009, 1),
+    };
     Tag {
-        year: if is_last { 2009 } else { 2008 },
-        day: if is_last { 1 } else { day + 1 },
+        year,
+        day: next,
         hour: 0,
         minute: (ms / 60000 % 60) as u8,
         second: (ms / 1000 % 60) as u8,
@@ -93,35 +135,14 @@ fn behind_midnight(day: u16, ms: u32) -> Tag
     }
 }
 
-// The same behind 23:59:00.000 of the day. Where that minute has 61 seconds, the last of them is second 60.
-fn at(day: u16, ms: u32) -> Tag
-    requires { day < 367 }
-{
-    let end = last_minute(day);
-    if end <= ms {
-        return behind_midnight(day, ms - end);
-    }
-    Tag {
-        year: 2008,
-        day: day,
-        hour: 23,
-        minute: 59,
-        second: (ms / 1000) as u8,
-        ms: (ms % 1000) as u16,
-        flywheel: false,
-    }
-}
-
 // The eight bytes of a time. One leap day is lent, and on no other is second 60 a good one.
-fn bytes_of(time: Tag) -> [u8; 8] {
-    let leap_days = [2008000 + LEAP_DAY as u32];
-    tag::write_tag(time, &leap_days).unwrap_or([0; 8])
+fn bytes_of(time: Moment) -> [u8; 8] {
+    let leap_days = [2008000 + Day::Leap as u32];
+    tag::write_tag(time.tag(), &leap_days).unwrap_or([0; 8])
 }
 
 // A header: block id, word size, word count, version, whether data is marked valid, and the SPS time.
-fn header_of(block: Block) -> [u8; 28]
-    requires { block.words < 65534 }
-{
+fn header_of(block: Block) -> [u8; 28] {
     let count = block.words + EXTRA_WORDS;
     let mut header = [0u8; 28];
     header[0] = block.id;
@@ -150,9 +171,7 @@ fn put_words(words: &mut [u16]) {
 }
 
 // A block of the first words, as many as it has, into the room; its bytes.
-fn make(block: Block, words: &[u16], room: &mut [u8]) -> usize
-    requires { block.words < 65534 }
-{
+fn make(block: Block, words: &[u16], room: &mut [u8]) -> usize {
     let end = block.words as usize;
     let header = header_of(block);
     if words.len() < end {
@@ -175,9 +194,7 @@ fn put_damaged(
     at: usize,
     bit: u8,
     less: usize,
-) -> io::Result<()>
-    requires { block.words < 65534 }
-{
+) -> io::Result<()> {
     let mut pattern = [0u16; MOST_WORDS];
     let mut room = [0u8; BLOCK_BYTES];
     put_words(&mut pattern);
@@ -189,17 +206,13 @@ fn put_damaged(
     put_field(rt, tag, &room, end - less)
 }
 
-fn put_block(rt: &HostRuntime, block: Block) -> io::Result<()>
-    requires { block.words < 65534 }
-{
+fn put_block(rt: &HostRuntime, block: Block) -> io::Result<()> {
     put_damaged(rt, block, recording::BLOCK, 0, 0, 0)
 }
 
 // A block 1 to 10 of version 2 and of so many infrared pixels.
-fn scanned(number: u8, pixels: u16, valid: u8, time: Tag) -> Block
-    requires { pixels < 5237 }
-    ensures { result.words < 65534 }
-{
+fn scanned(number: u8, pixels: u8, valid: u8, time: Moment) -> Block {
+    let pixels = pixels as u16;
     let words = match number {
         1 => 4 * (16 + pixels),
         2 => 3 * (16 + pixels),
@@ -208,16 +221,20 @@ fn scanned(number: u8, pixels: u16, valid: u8, time: Tag) -> Block
     Block {
         id: number,
         size: 10,
-        words: words,
+        words,
         version: 2,
-        valid: valid,
-        time: time,
+        valid,
+        time,
     }
 }
 
-fn put_scanned(rt: &HostRuntime, number: u8, pixels: u16, valid: u8, time: Tag) -> io::Result<()>
-    requires { pixels < 5237 }
-{
+fn put_scanned(
+    rt: &HostRuntime,
+    number: u8,
+    pixels: u8,
+    valid: u8,
+    time: Moment,
+) -> io::Result<()> {
     let block = scanned(number, pixels, valid, time);
     put_block(rt, block)
 }
@@ -229,62 +246,55 @@ fn put_counted(
     size: u8,
     words: u16,
     version: u8,
-    time: Tag,
+    time: Moment,
 ) -> io::Result<()>
     requires { words < 65534 }
 {
     let block = Block {
-        id: id,
-        size: size,
-        words: words,
-        version: version,
+        id,
+        size,
+        words,
+        version,
         valid: DATA,
-        time: time,
+        time,
     };
     put_block(rt, block)
 }
 
-fn put_block_0(rt: &HostRuntime, time: Tag) -> io::Result<()> {
+fn put_block_0(rt: &HostRuntime, time: Moment) -> io::Result<()> {
     put_counted(rt, 240, 8, 8040, 2, time)
 }
 
-// The data valid word of a block in a scan over the end of a day of 2008: on the leap day blocks 2, 5 and 10 are fill.
-fn valid_in_scan(day: u16, number: u8) -> u8 {
-    if day != LEAP_DAY {
-        return DATA;
-    }
-    match number {
-        2 | 5 | 10 => FILL,
+// The data valid word of a block in a scan over the end of a day: on the leap day blocks 2, 5 and 10 are fill.
+fn valid_in_scan(day: Day, number: u8) -> u8 {
+    match (day, number) {
+        (Day::Leap, 2 | 5 | 10) => FILL,
         _ => DATA,
     }
 }
 
-// Blocks 0 to 10, so many milliseconds apart, over the end of a day of 2008: completed.
-fn put_scan(rt: &HostRuntime, day: u16, apart: u16, pixels: u16) -> io::Result<()>
-    requires fact_1 { day < 367 }
-    requires fact_2 { pixels < 5237 }
-{
-    put_block_0(rt, at(day, SCAN))?;
+// Blocks 0 to 10, so many milliseconds apart, over the end of a day: completed.
+fn put_scan(rt: &HostRuntime, day: Day, apart: u16, pixels: u8) -> io::Result<()> {
+    let first = Moment { day, ms: SCAN };
+    put_block_0(rt, first)?;
     for number in 1..=10u8 {
-        let time = at(day, SCAN + apart as u32 * number as u32);
+        let time = first.later(apart as u32 * number as u32);
         put_scanned(rt, number, pixels, valid_in_scan(day, number), time)?;
     }
     Ok(())
 }
 
 // Blocks 11 of every version and size.
-fn put_blocks_11(rt: &HostRuntime, ms: u32) -> io::Result<()>
-    requires { ms + 300 < 4294967296 }
-{
-    put_counted(rt, 11, 8, 8040, 0, at(DAY, ms))?;
-    put_counted(rt, 11, 6, 10720, 1, at(DAY, ms + 100))?;
-    put_counted(rt, 11, 10, 6432, 2, at(DAY, ms + 200))?;
-    put_counted(rt, 11, 8, 8040, 3, at(DAY, ms + 300))
+fn put_blocks_11(rt: &HostRuntime, from: Moment) -> io::Result<()> {
+    put_counted(rt, 11, 8, 8040, 0, from)?;
+    put_counted(rt, 11, 6, 10720, 1, from.later(100))?;
+    put_counted(rt, 11, 10, 6432, 2, from.later(200))?;
+    put_counted(rt, 11, 8, 8040, 3, from.later(300))
 }
 
 // A header copy hit, which the other two make good; the data hit; a byte missing; another tag; fewer bytes than a header has.
-fn put_hits(rt: &HostRuntime, ms: u32) -> io::Result<()> {
-    let block = scanned(3, PIXELS, DATA, at(DAY, ms));
+fn put_hits(rt: &HostRuntime, from: Moment) -> io::Result<()> {
+    let block = scanned(3, PIXELS, DATA, from);
     put_damaged(rt, block, recording::BLOCK, 5, 16, 0)?;
     put_damaged(rt, block, recording::BLOCK, 200, 1, 0)?;
     put_damaged(rt, block, recording::BLOCK, 0, 0, 1)?;
@@ -293,40 +303,32 @@ fn put_hits(rt: &HostRuntime, ms: u32) -> io::Result<()> {
 }
 
 // Block 1 comes 5,000 ms after block 0, and block 2 a millisecond more after that: late.
-fn put_late(rt: &HostRuntime, ms: u32) -> io::Result<()>
-    requires { ms + 10001 < 4294967296 }
-{
-    put_block_0(rt, at(DAY, ms))?;
-    put_scanned(rt, 1, FEW_PIXELS, DATA, at(DAY, ms + 5000))?;
-    put_scanned(rt, 2, FEW_PIXELS, DATA, at(DAY, ms + 10001))
+fn put_late(rt: &HostRuntime, from: Moment) -> io::Result<()> {
+    put_block_0(rt, from)?;
+    put_scanned(rt, 1, FEW_PIXELS, DATA, from.later(5000))?;
+    put_scanned(rt, 2, FEW_PIXELS, DATA, from.later(10001))
 }
 
 // Block 2 has a time one millisecond before that of block 1: clock back.
-fn put_clock_back(rt: &HostRuntime, ms: u32) -> io::Result<()>
-    requires { ms + 100 < 4294967296 }
-{
-    put_block_0(rt, at(DAY, ms))?;
-    put_scanned(rt, 1, FEW_PIXELS, DATA, at(DAY, ms + 100))?;
-    put_scanned(rt, 2, FEW_PIXELS, DATA, at(DAY, ms + 99))
+fn put_clock_back(rt: &HostRuntime, from: Moment) -> io::Result<()> {
+    put_block_0(rt, from)?;
+    put_scanned(rt, 1, FEW_PIXELS, DATA, from.later(100))?;
+    put_scanned(rt, 2, FEW_PIXELS, DATA, from.later(99))
 }
 
 // Block 2 is hit and refused, so that block 3 is not the one expected: broken. Block 1 is fill.
-fn put_broken(rt: &HostRuntime, ms: u32) -> io::Result<()>
-    requires { ms + 300 < 4294967296 }
-{
-    let second = scanned(2, FEW_PIXELS, DATA, at(DAY, ms + 200));
-    put_block_0(rt, at(DAY, ms))?;
-    put_scanned(rt, 1, FEW_PIXELS, FILL, at(DAY, ms + 100))?;
+fn put_broken(rt: &HostRuntime, from: Moment) -> io::Result<()> {
+    let second = scanned(2, FEW_PIXELS, DATA, from.later(200));
+    put_block_0(rt, from)?;
+    put_scanned(rt, 1, FEW_PIXELS, FILL, from.later(100))?;
     put_damaged(rt, second, recording::BLOCK, 200, 1, 0)?;
-    put_scanned(rt, 3, FEW_PIXELS, DATA, at(DAY, ms + 300))
+    put_scanned(rt, 3, FEW_PIXELS, DATA, from.later(300))
 }
 
 // Block 2 with 84 words, which suit both its rows: three records of 12 pixels in version 2, four of 5 in version 3.
-fn put_second(rt: &HostRuntime, ms: u32) -> io::Result<()>
-    requires { ms + 100 < 4294967296 }
-{
-    put_counted(rt, 2, 10, 84, 2, at(DAY, ms))?;
-    put_counted(rt, 2, 10, 84, 3, at(DAY, ms + 100))
+fn put_second(rt: &HostRuntime, from: Moment) -> io::Result<()> {
+    put_counted(rt, 2, 10, 84, 2, from)?;
+    put_counted(rt, 2, 10, 84, 3, from.later(100))
 }
 
 // Bytes as words, over those from `at` on.
@@ -359,20 +361,18 @@ fn lay_status(words: &mut [u16; SOUNDER_WORDS]) {
 }
 
 // Tag k, counted from 0: the times are 100 ms apart, and there was no star sense.
-fn tag_bytes(k: usize, ms: u32) -> [u8; 8]
-    requires { (k < 15) × (ms + 1400 < 4294967296) }
+fn tag_bytes(k: usize, first: Moment) -> [u8; 8]
+    requires { k < 15 }
 {
     if k == STAR_SENSE {
         return [0; 8];
     }
-    bytes_of(at(DAY, ms + 100 * k as u32))
+    bytes_of(first.later(100 * k as u32))
 }
 
-fn lay_tags(ms: u32, words: &mut [u16; SOUNDER_WORDS])
-    requires { ms + 1400 < 4294967296 }
-{
+fn lay_tags(first: Moment, words: &mut [u16; SOUNDER_WORDS]) {
     for k in 0..TAG_COUNT {
-        lay_bytes(&tag_bytes(k, ms), words, TAGS + 8 * k);
+        lay_bytes(&tag_bytes(k, first), words, TAGS + 8 * k);
     }
 }
 
@@ -388,59 +388,66 @@ fn lay_frame(west: u16, east: u16, words: &mut [u16; SOUNDER_WORDS]) {
 }
 
 // The words of a Sounder documentation block: the pattern, and over it what such a block says. Its tags begin at a time.
-fn lay_documentation(ms: u32, west: u16, east: u16, words: &mut [u16; SOUNDER_WORDS])
-    requires { ms + 1400 < 4294967296 }
-{
+fn lay_documentation(first: Moment, west: u16, east: u16, words: &mut [u16; SOUNDER_WORDS]) {
     put_words(words);
     lay_id(words);
     lay_status(words);
     lay_number(263, words, RAW_COUNT);
     lay_number(25, words, BLOCK_COUNT);
-    lay_tags(ms, words);
+    lay_tags(first, words);
     lay_frame(west, east, words);
 }
 
 // A block 11 of version 3 that has these words.
-fn put_block_11(rt: &HostRuntime, time: Tag, words: &[u16; SOUNDER_WORDS]) -> io::Result<()> {
+fn put_block_11(rt: &HostRuntime, time: Moment, words: &[u16; SOUNDER_WORDS]) -> io::Result<()> {
     let block = Block {
         id: 11,
         size: 8,
         words: 8040,
         version: 3,
         valid: DATA,
-        time: time,
+        time,
     };
     let mut room = [0u8; BLOCK_BYTES];
     let end = make(block, words, &mut room);
     put_field(rt, recording::BLOCK, &room, end)
 }
 
-fn put_sounder(rt: &HostRuntime, time: Tag, ms: u32, west: u16, east: u16) -> io::Result<()>
-    requires { ms + 1400 < 4294967296 }
-{
+fn put_sounder(
+    rt: &HostRuntime,
+    time: Moment,
+    first: Moment,
+    west: u16,
+    east: u16,
+) -> io::Result<()> {
     let mut words = [0u16; SOUNDER_WORDS];
-    lay_documentation(ms, west, east, &mut words);
+    lay_documentation(first, west, east, &mut words);
     put_block_11(rt, time, &words)
 }
 
 // Twice the same frame, the second time with west and east exchanged, which is refused.
-fn put_sounders(rt: &HostRuntime, ms: u32) -> io::Result<()>
-    requires { ms + 1400 < 4294967296 }
-{
-    put_sounder(rt, at(DAY, ms), ms, 600, 1200)?;
-    put_sounder(rt, at(DAY, ms + 100), ms, 1200, 600)
+fn put_sounders(rt: &HostRuntime, from: Moment) -> io::Result<()> {
+    put_sounder(rt, from, from, 600, 1200)?;
+    put_sounder(rt, from.later(100), from, 1200, 600)
+}
+
+fn on_common_day(ms: u32) -> Moment {
+    Moment {
+        day: Day::Common,
+        ms,
+    }
 }
 
 fn put_all(rt: &HostRuntime) -> io::Result<()> {
-    put_scan(rt, DAY, 100, PIXELS)?;
-    put_blocks_11(rt, 60600)?;
-    put_hits(rt, 61000)?;
-    put_late(rt, 61500)?;
-    put_clock_back(rt, 72000)?;
-    put_broken(rt, 72500)?;
-    put_scan(rt, LEAP_DAY, 200, FEW_PIXELS)?;
-    put_second(rt, 73000)?;
-    put_sounders(rt, 73200)
+    put_scan(rt, Day::Common, 100, PIXELS)?;
+    put_blocks_11(rt, on_common_day(60600))?;
+    put_hits(rt, on_common_day(61000))?;
+    put_late(rt, on_common_day(61500))?;
+    put_clock_back(rt, on_common_day(72000))?;
+    put_broken(rt, on_common_day(72500))?;
+    put_scan(rt, Day::Leap, 200, FEW_PIXELS)?;
+    put_second(rt, on_common_day(73000))?;
+    put_sounders(rt, on_common_day(73200))
 }
 
 // Any word, an option or a name, is answered with how it is called.
