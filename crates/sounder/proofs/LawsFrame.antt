@@ -9,12 +9,28 @@ use native.Mathlib.Omega.{arith}
 use lib.Dec.{lit<}
 use lib.ListN.{get_or, drop, drop_of_length-le}
 use lib.Seq.{drop-cons}
+use Rattle.std.proofs.lemmas.List.{get_or-map}
 use Rattle.ground.specs.Choice.{pick}
-use Rattle.sounder.specs.Frame.{first_word, frame_fields, is_out, first_from, first_out}
+use Rattle.sounder.specs.Words.{number_at}
+use Rattle.sounder.specs.Frame.{first_word, frame_fields, frame_of, is_out, first_from, first_out}
 use Rattle.sounder.specs.declared.frame.Range.{Range}
 
 abbrev pub range_at : ℕ → Range
 range_at i = get_or frame_fields i (0, 0, 0)
+
+-- each begins within a block, and its number is the frame's there
+pub begins : (k : ℕ) → k < 7 → (1 ≤ first_word (range_at k)) × (first_word (range_at k) < 8040)
+begins zero h = (omega arith, omega arith)
+begins (suc zero) h = (omega arith, omega arith)
+begins (suc (suc zero)) h = (omega arith, omega arith)
+begins (suc (suc (suc zero))) h = (omega arith, omega arith)
+begins (suc (suc (suc (suc zero)))) h = (omega arith, omega arith)
+begins (suc (suc (suc (suc (suc zero))))) h = (omega arith, omega arith)
+begins (suc (suc (suc (suc (suc (suc zero)))))) h = (omega arith, omega arith)
+begins (suc (suc (suc (suc (suc (suc (suc k))))))) h = absurd (omega arith)
+
+pub field_is : (words : List ℕ) (k : ℕ) → k < 7 → number_at (first_word (range_at k)) words ≡ get_or (frame_of words) k 0
+field_is words k h = sym (get_or-map (λ (r : Range). number_at (first_word r) words) frame_fields k (0, 0, 0) 0 h)
 
 pub record Looking (frame : List ℕ) (i : ℕ) : Type 0 where
   pub within : i ≤ 7

@@ -1,4 +1,5 @@
 pub mod LawsFrame
+pub mod LawsMade
 pub mod LawsWords
 pub mod LawsJudging
 pub mod KeepsFrame

@@ -1,9 +1,9 @@
 // The seven frame fields of a Sounder documentation block and the ranges that 504-02 Table 3-10 prints for them.
-ghost use Rattle.std.specs.Prelude.{◌≡◌, ◌≤◌, ◌<◌, unwrap_or, IfSome};
-ghost use Rattle.sounder.specs.Words.{number_at};
-ghost use Rattle.sounder.specs.Frame.{first_word, frame_of, outside, is_out, first_out};
+ghost use Rattle.std.specs.Prelude.{◌≡◌, ◌<◌, unwrap_or, IfSome, slice_index_or};
+ghost use Rattle.sounder.specs.Frame.{frame_of, outside, is_out, first_out};
 
 use crate::words::Block;
+use std::array;
 
 // First word, counted from 1, and the least and the most that may stand in the field.
 #[derive(Clone, Copy)]
@@ -24,27 +24,20 @@ const RANGES: [Range; 7] = [
     Range(193, 4, 1582), // SSFLN
 ];
 
-fn field_in(block: Block<'_>, range: Range) -> u16
-    requires { (1 ≤ first_word range) × (first_word range < 8040) }
-    ensures { result ≡ number_at (first_word range) block.entry.words.now }
+// The field of a range, which is counted from 0.
+fn field_at(block: Block<'_>, i: usize) -> u16
+    requires { i < 7 }
+    ensures { result ≡ slice_index_or (frame_of block.entry.words.now) i 0 }
 {
-    block.number_at(range.0 as usize)
+    let ranges = RANGES;
+    block.number_at(ranges[i].0 as usize)
 }
 
 // The fields in their order, whatever stands in them.
 pub(crate) fn frame_of(block: Block<'_>) -> [u16; 7]
     ensures { result ≡ frame_of block.entry.words.now }
 {
-    let ranges = RANGES;
-    [
-        field_in(block, ranges[0]),
-        field_in(block, ranges[1]),
-        field_in(block, ranges[2]),
-        field_in(block, ranges[3]),
-        field_in(block, ranges[4]),
-        field_in(block, ranges[5]),
-        field_in(block, ranges[6]),
-    ]
+    array::from_fn(|i| field_at(block, i))
 }
 
 fn is_outside(range: Range, n: u16) -> bool

@@ -5,6 +5,7 @@ ghost use Rattle.tag.specs.Tags.{read_by, told_tag};
 ghost use Rattle.sounder.specs.Words.{Small, number_at, status_in, tag_words, tags_of};
 
 use ground::Refusal;
+use std::array;
 use tag::Tag;
 
 // Where the detector status begins and ends, and where the time tags begin, counted from 0.
@@ -23,14 +24,12 @@ pub(crate) struct Block<'a> {
     ghost plain: { ground_of words.now ≡ 0 },
 }
 
-// Words as bytes, into room for as many.
-fn lower(words: &[u16], bytes: &mut [u8])
-    requires { (length words.now ≡ length bytes.old) × Small words.now }
-    ensures { bytes.new ≡ words.now }
+// So many words as bytes.
+fn lowered<const N: usize>(words: &[u16]) -> [u8; N]
+    requires { (length words.now ≡ N) × Small words.now }
+    ensures { result ≡ words.now }
 {
-    for i in 0..bytes.len() {
-        bytes[i] = (words[i] % 256) as u8;
-    }
+    array::from_fn(|i| (words[i] % 256) as u8)
 }
 
 impl<'a> Block<'a> {
@@ -46,9 +45,7 @@ impl<'a> Block<'a> {
     pub(crate) fn status(self) -> [u8; 10]
         ensures { result ≡ status_in self.entry.words.now }
     {
-        let mut status = [0u8; 10];
-        lower(&self.words[STATUS..STATUS_END], &mut status);
-        status
+        lowered(&self.words[STATUS..STATUS_END])
     }
 
     // Tag k of fifteen, counted from 0, by a list that was tested.
@@ -57,31 +54,17 @@ impl<'a> Block<'a> {
         ensures { told_tag result ≡ read_by leaps.now (tag_words k self.entry.words.now) }
     {
         let from = TAGS + TAG_WORDS * k;
-        let mut bytes = [0u8; TAG_WORDS];
-        lower(&self.words[from..from + TAG_WORDS], &mut bytes);
-        tag::read_by(&bytes, leaps)
+        tag::read_by(
+            &lowered::<TAG_WORDS>(&self.words[from..from + TAG_WORDS]),
+            leaps,
+        )
     }
 
-    // The fifteen tags, each by itself.
+    // The fifteen tags, each by itself: TSCURR, TSCLS, TSCLE, TCSLS, TCSLE, TSPFS, TSNFS, TSSPC, TSECL, TSBBC, TSSTR, TLRAN, TSVIT, TSCLMT
+    // and TSONA.
     pub(crate) fn tags(self, leaps: &[u32]) -> [Result<Tag, Refusal>; 15]
         ensures { map told_tag result ≡ tags_of leaps.now self.entry.words.now }
     {
-        [
-            self.tag_at(leaps, 0), // TSCURR
-            self.tag_at(leaps, 1), // TSCLS
-            self.tag_at(leaps, 2), // TSCLE
-            self.tag_at(leaps, 3), // TCSLS
-            self.tag_at(leaps, 4), // TCSLE
-            self.tag_at(leaps, 5), // TSPFS
-            self.tag_at(leaps, 6), // TSNFS
-            self.tag_at(leaps, 7), // TSSPC
-            self.tag_at(leaps, 8), // TSECL
-            self.tag_at(leaps, 9), // TSBBC
-            self.tag_at(leaps, 10), // TSSTR
-            self.tag_at(leaps, 11), // TLRAN
-            self.tag_at(leaps, 12), // TSVIT
-            self.tag_at(leaps, 13), // TSCLMT
-            self.tag_at(leaps, 14), // TSONA
-        ]
+        array::from_fn(|k| self.tag_at(leaps, k))
     }
 }

@@ -1,15 +1,16 @@
--- `sounder::frame::frame_of` meets its contract: each field is its row's.
+-- `sounder::frame::frame_of` meets its contract: each field is its range's.
 -- Assumes nothing.
-use mathlib.Core.List.{[], ◌∷◌}
+use native.Mathlib.Omega.{arith}
+use lib.ListN.{get_or}
+use Rattle.std.proofs.Common.{rules}
+use Rattle.std.proofs.lemmas.Grind.{same_number_lists}
+use Rattle.sounder.specs.Frame.{frame_of}
+use Rattle.sounder.proofs.LawsMade.{made_at}
 use Rattle.sounder.proofs.frame.frame_of.Goals as goal
 
 pub returns : goal.returns
 returns c =
-    λ i. c.field_in.ensures i
-    ∷ c.field_in-2.ensures i
-    ∷ c.field_in-3.ensures i
-    ∷ c.field_in-4.ensures i
-    ∷ c.field_in-5.ensures i
-    ∷ c.field_in-6.ensures i
-    ∷ c.field_in-7.ensures i
-    ∷ []
+    let frame = frame_of c.args.block.words.now in
+    let made = c.from_fn.ensures.items in
+    same_number_lists c.from_fn.result frame made.long
+    (λ k h. made_at _ (λ n. n) (λ i. get_or frame i 0) _ 7 (λ i y q b called. search rules) c.from_fn.result 0 made k (omega (arith, h, made.long)))

@@ -9,16 +9,16 @@ use Rattle.tag.specs.Tags.{read_by}
 use Rattle.sounder.proofs.LawsWords.{part_long, part_small}
 use Rattle.sounder.proofs.words.Block.tag_at.Goals as goal
 
-pub slice_bounds-lower-end : goal.slice_bounds-lower-end
-slice_bounds-lower-end c = omega (arith, right_length c.args.self.words.now c.args.self.plain)
+pub slice_bounds-lowered-end : goal.slice_bounds-lowered-end
+slice_bounds-lowered-end c = omega (arith, right_length c.args.self.words.now c.args.self.plain)
 
-pub lower-requires : goal.lower-requires
-lower-requires c =
+pub lowered-requires : goal.lowered-requires
+lowered-requires c =
     let words = c.args.self.words.now in
     let from = 58 + 8 * c.args.k in
     let long = right_length words c.args.self.plain in
     let fits : from + (from + 8 - from) ≤ 8040 = omega arith in
-    (part_long words from (from + 8 - from) (omega arith) ∙ omega arith, part_small words from (from + 8 - from) (small_words words c.args.self.plain))
+    (omega arith, (part_long words from (from + 8 - from) (omega arith) ∙ omega arith, part_small words from (from + 8 - from) (small_words words c.args.self.plain)))
 
 pub returns : goal.returns
 returns c =
@@ -27,4 +27,4 @@ returns c =
     let long : 58 + 8 * k + 8 - (58 + 8 * k) ≡ 66 + 8 * k + 1 - (59 + 8 * k) = omega arith in
     let from : 58 + 8 * k ≡ 59 + 8 * k - 1 = omega arith in
     c.read_by.ensures
-    ∙ ap (read_by c.args.leaps.now) (c.lower.ensures ∙ ap₂ (λ (n m : ℕ). take n (drop m words)) long from)
+    ∙ ap (read_by c.args.leaps.now) (c.lowered.ensures ∙ ap₂ (λ (n m : ℕ). take n (drop m words)) long from)

@@ -1,23 +1,12 @@
 -- `sounder::words::Block::tags` meets its contract: each tag is read by itself.
 -- Assumes nothing.
-use mathlib.Core.List.{[], ◌∷◌}
+use Rattle.std.proofs.Common.{rules}
+use Rattle.tag.specs.Tags.{told_tag, read_by}
+use Rattle.sounder.specs.Words.{tag_words}
+use Rattle.sounder.proofs.LawsMade.{made_all}
 use Rattle.sounder.proofs.words.Block.tags.Goals as goal
 
 pub returns : goal.returns
 returns c =
-    λ i. c.tag_at.ensures i
-    ∷ c.tag_at-2.ensures i
-    ∷ c.tag_at-3.ensures i
-    ∷ c.tag_at-4.ensures i
-    ∷ c.tag_at-5.ensures i
-    ∷ c.tag_at-6.ensures i
-    ∷ c.tag_at-7.ensures i
-    ∷ c.tag_at-8.ensures i
-    ∷ c.tag_at-9.ensures i
-    ∷ c.tag_at-10.ensures i
-    ∷ c.tag_at-11.ensures i
-    ∷ c.tag_at-12.ensures i
-    ∷ c.tag_at-13.ensures i
-    ∷ c.tag_at-14.ensures i
-    ∷ c.tag_at-15.ensures i
-    ∷ []
+    let a = c.args in
+    made_all _ told_tag (λ k. read_by a.leaps.now (tag_words k a.self.words.now)) _ 15 (λ i y q b called. search rules) c.from_fn.result c.from_fn.ensures.items
