@@ -1,6 +1,6 @@
 -- No refusal has the number 0, no two have the same, and an answer is known by what is told of it.
 -- Assumes nothing.
-use Rattle.std.specs.Prelude.{ℕ, ◌-◌, ◌≡◌, List, [], ◌∷◌, get_or, Result, Ok, Err, IsErrAnd}
+use Rattle.std.specs.Prelude.{ℕ, ◌-◌, ◌≡◌, [], ◌∷◌, get_or, Result, Ok, Err, IsErrAnd}
 use Rattle.std.proofs.Common.{refl, sym, ap, ◌∙◌, arith}
 use Rattle.ground.specs.declared.Refusal.{Refusal}
 use Rattle.ground.specs.declared.Refusal.TheVariants.{NoHeader, NoCopyPasses, CopiesDiffer, UnknownBlock, UnknownVersion, WrongSize, WrongCount, WrongLength, SmallRoom, CheckDisagrees, FillNotZero, BadTag, NoRecord, LargeWord, OtherField, LongLimit, OffBoundary, NoBlock, BadLeapDays, BadFill, SpareBit, OutOfRange}
