@@ -2,10 +2,10 @@
 // x^64 + x^48 + x^20 + 1.
 #![tactic(auto)]
 
-ghost use Rattle.std.specs.Prelude.{◌≡◌, [], ◌∷◌, ◌+◌, ◌≤◌, length, take, drop};
+ghost use Rattle.std.specs.Prelude.{◌≡◌};
 ghost use Rattle.bits.specs.Bits.{bits};
 ghost use Rattle.check_rule.specs.Check.{feed, check_word, generator};
-ghost use Rattle.check_eight.specs.Eight.{big, folded, finished, joined, check_from};
+ghost use Rattle.check_eight.specs.Eight.{folded, finished, joined, check_from};
 
 // `s` with 64 zero bits behind it.
 fn fold(s: u64) -> u64

@@ -2,9 +2,9 @@
 // answers its length; where the room is too small it changes nothing and answers 0.
 #![tactic(auto)]
 
-ghost use Rattle.std.specs.Prelude.{◌≡◌, ◌+◌, ◌≤◌, length};
+ghost use Rattle.std.specs.Prelude.{◌≡◌, ◌≤◌, length};
 ghost use Rattle.room.specs.Laid.{laid, laid_inside};
-ghost use Rattle.text.specs.Texts.{ended, ends_at, put_length};
+ghost use Rattle.text.specs.Texts.{ended, put_length};
 ghost use Rattle.report.specs.Texts.{first_text, kind_text, changed_text, entry_text, last_text};
 
 // What the third number of an entry is where it stands for a span; every other number is a block's.
