@@ -57,8 +57,7 @@ fn bad_fill(w: Watch) -> bool
 fn bad_last(w: Watch, leaps: &[u32]) -> bool
     ensures { result ≡ bad_last leaps.now w }
 {
-    let last = w.last;
-    let good = tag::in_bounds(last, leaps);
+    let good = tag::in_bounds(w.last, leaps);
     w.opened & !good
 }
 
