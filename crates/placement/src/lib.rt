@@ -1,9 +1,9 @@
-// The channel and the detector of a record of blocks 1 to 10: the placement by version of 504-02 section 3.2.1, a
-// table of constants and a lookup in it. What is right is in specs/Placement.antt.
+// The channel and the detector of a record of blocks 1 to 10: the placement by version of 504-02 section 3.2.1, two
+// tables of constants and a lookup in each. What is right is in specs/Placement.antt.
 #![tactic(auto)]
 
-ghost use Rattle.std.specs.Prelude.{◌≡◌, length};
-ghost use Rattle.placement.specs.Placement.{held_in, told, place_of};
+ghost use Rattle.std.specs.Prelude.{◌≡◌, ◌<◌, length};
+ghost use Rattle.placement.specs.Placement.{group_of, held_in, told, place_of};
 
 use ground::Refusal;
 
@@ -18,24 +18,54 @@ pub struct Placed {
 #[derive(Clone, Copy)]
 struct Held(u8, u8);
 
-// What the records of a block hold, in their order. Version 3 has the eighth infrared detector, 6/2.
+// What the records of blocks 1 and 2 hold, in their order, by version group. Version 3 has the eighth infrared detector, 6/2.
+const HELD: [[&[Held]; 2]; 3] = [
+    // Versions 0, 1.
+    [
+        &[Held(4, 1), Held(4, 2), Held(5, 1), Held(5, 2)],
+        &[Held(2, 1), Held(2, 2), Held(3, 1)],
+    ],
+    // Version 2.
+    [
+        &[Held(2, 1), Held(2, 2), Held(3, 1), Held(3, 2)],
+        &[Held(4, 1), Held(4, 2), Held(6, 1)],
+    ],
+    // Version 3.
+    [
+        &[Held(2, 1), Held(2, 2), Held(3, 1), Held(3, 2)],
+        &[Held(4, 1), Held(4, 2), Held(6, 1), Held(6, 2)],
+    ],
+];
+
+// Blocks 3 to 10, a record each, in every version.
+const VISIBLE: [&[Held]; 8] = [
+    &[Held(1, 5)],
+    &[Held(1, 6)],
+    &[Held(1, 7)],
+    &[Held(1, 8)],
+    &[Held(1, 1)],
+    &[Held(1, 2)],
+    &[Held(1, 3)],
+    &[Held(1, 4)],
+];
+
+fn group_of(version: u8) -> usize
+    ensures { (result ≡ group_of version) × (result < 3) }
+{
+    match version {
+        0 | 1 => 0,
+        2 => 1,
+        _ => 2,
+    }
+}
+
+// What the records of a block hold, in their order.
 fn held_in(block: u8, version: u8) -> &'static [Held]
     ensures { result.now ≡ held_in block version }
 {
-    match (block, version) {
-        (1, 0 | 1) => &[Held(4, 1), Held(4, 2), Held(5, 1), Held(5, 2)],
-        (1, _) => &[Held(2, 1), Held(2, 2), Held(3, 1), Held(3, 2)],
-        (2, 0 | 1) => &[Held(2, 1), Held(2, 2), Held(3, 1)],
-        (2, 2) => &[Held(4, 1), Held(4, 2), Held(6, 1)],
-        (2, _) => &[Held(4, 1), Held(4, 2), Held(6, 1), Held(6, 2)],
-        (3, _) => &[Held(1, 5)],
-        (4, _) => &[Held(1, 6)],
-        (5, _) => &[Held(1, 7)],
-        (6, _) => &[Held(1, 8)],
-        (7, _) => &[Held(1, 1)],
-        (8, _) => &[Held(1, 2)],
-        (9, _) => &[Held(1, 3)],
-        (10, _) => &[Held(1, 4)],
+    match block {
+        1 | 2 => HELD[group_of(version)][block as usize - 1],
+        3..=10 => VISIBLE[block as usize - 3],
         _ => &[],
     }
 }
