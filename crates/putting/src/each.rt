@@ -1,17 +1,25 @@
 // Words into a field, one by one.
-ghost use Rattle.std.specs.Prelude.{◌≡◌, ◌*◌, ◌^◌, ◌≤◌, length};
-ghost use Rattle.bits.specs.Bits.{Below};
-ghost use Rattle.bits.specs.Fields.{field_of};
+ghost use Rattle.std.specs.Prelude.{◌≡◌, true, ◌*◌, ◌≤◌, length};
+ghost use Rattle.bits.specs.Fields.{all_fit, field_of};
 
 use crate::zeros::clear;
 
+// Words of which none has more than `size` bits.
+#[derive(Clone, Copy)]
+pub(crate) struct Fitting<'a> {
+    pub(crate) words: &'a [u16],
+    pub(crate) size: u8,
+    ghost le_size: { (1 ≤ size) × (size ≤ 16) },
+    ghost fits: { all_fit size words.now ≡ true },
+}
+
 // `acc` holds the `have` bits that are put and not yet part of a byte; behind the last word they are filled up with zeros.
-fn put_each(words: &[u16], size: usize, field: &mut [u8])
-    requires le_size { (1 ≤ size) × (size ≤ 16) }
-    requires size_in_bounds { length words.now * size ≤ length field.old * 8 }
-    requires below { Below (2 ^ size) words.now }
-    ensures { field.new ≡ field_of size (length field.old) words.now }
+fn put_each(fitting: Fitting<'_>, field: &mut [u8])
+    requires size_in_bounds { length fitting.words.now * fitting.size ≤ length field.old * 8 }
+    ensures { field.new ≡ field_of fitting.entry.size (length field.old) fitting.entry.words.now }
 {
+    let words = fitting.words;
+    let size = fitting.size as usize;
     let mut acc: usize = 0;
     let mut have: usize = 0;
     let mut i: usize = 0;
@@ -34,20 +42,19 @@ fn put_each(words: &[u16], size: usize, field: &mut [u8])
 }
 
 // The same, and the bytes behind the last word many at a time: all but the first few are cleared, then the words are put in front of them.
-pub(crate) fn put_plain(words: &[u16], size: usize, field: &mut [u8])
-    requires le_size { (1 ≤ size) × (size ≤ 16) }
-    requires size_in_bounds { length words.now * size ≤ length field.old * 8 }
-    requires below { Below (2 ^ size) words.now }
-    ensures { field.new ≡ field_of size (length field.old) words.now }
+pub(crate) fn put_plain(fitting: Fitting<'_>, field: &mut [u8])
+    requires size_in_bounds { length fitting.words.now * fitting.size ≤ length field.old * 8 }
+    ensures { field.new ≡ field_of fitting.entry.size (length field.old) fitting.entry.words.now }
 {
-    let count = words.len();
+    let count = fitting.words.len();
+    let size = fitting.size as usize;
     let end = count / 8 * size + (count % 8 * size + 7) / 8;
     let behind = field.len() - end;
     if behind == 0 {
-        put_each(words, size, field);
+        put_each(fitting, field);
         return;
     }
     let from = end + (behind - 1) % 15;
     clear(field, from);
-    put_each(words, size, &mut field[..from]);
+    put_each(fitting, &mut field[..from]);
 }

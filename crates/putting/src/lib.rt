@@ -2,12 +2,12 @@
 // length and no word is trusted.
 #![tactic(auto)]
 
-ghost use Rattle.std.specs.Prelude.{◌≡◌, ◌*◌, ◌^◌, ◌≤◌, length};
+ghost use Rattle.std.specs.Prelude.{◌≡◌, ◌*◌, ◌≤◌, length};
 ghost use Rattle.ground.specs.Refusals.{number_in};
-ghost use Rattle.bits.specs.Bits.{Below};
 ghost use Rattle.bits.specs.Fields.{put_answer, field_put, field_of};
 
 use bits::fitting::{EIGHT, SIX, TEN};
+use each::Fitting;
 use ground::Refusal;
 
 mod bytes;
@@ -18,17 +18,15 @@ mod groups;
 mod zeros;
 
 // Words that fit the field and their size: those of the format's sizes the quick way, of all others one by one.
-fn put_fitting(words: &[u16], size: u8, field: &mut [u8])
-    requires le_size { (1 ≤ size) × (size ≤ 16) }
-    requires size_in_bounds { length words.now * size ≤ length field.old * 8 }
-    requires below { Below (2 ^ size) words.now }
-    ensures { field.new ≡ field_of size (length field.old) words.now }
+fn put_fitting(fitting: Fitting<'_>, field: &mut [u8])
+    requires size_in_bounds { length fitting.words.now * fitting.size ≤ length field.old * 8 }
+    ensures { field.new ≡ field_of fitting.entry.size (length field.old) fitting.entry.words.now }
 {
-    match size {
-        SIX => groups::put_groups::<SIX>(words, field),
-        TEN => groups::put_groups::<TEN>(words, field),
-        EIGHT => bytes::put_bytes(words, field),
-        _ => each::put_plain(words, size as usize, field),
+    match fitting.size {
+        SIX => groups::put_groups::<SIX>(fitting.words, field),
+        TEN => groups::put_groups::<TEN>(fitting.words, field),
+        EIGHT => bytes::put_bytes(fitting.words, field),
+        _ => each::put_plain(fitting, field),
     }
 }
 
@@ -46,6 +44,6 @@ pub fn put_words(words: &[u16], size: u8, field: &mut [u8]) -> Result<(), Refusa
     if !fitting::all_fit(words, size) {
         return Err(Refusal::LargeWord);
     }
-    put_fitting(words, size, field);
+    put_fitting(Fitting { words, size }, field);
     Ok(())
 }

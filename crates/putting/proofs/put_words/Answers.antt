@@ -7,7 +7,6 @@ use Prim.Native.Nat.{ℕ}
 use borrow.Author.Tests.{leb-true}
 use lib.Dec.{eqb}
 use Rattle.ground.proofs.LawsChoice.{yes, no}
-use Rattle.bits.proofs.LawsFill.{fit_below}
 use Rattle.bits.proofs.LawsFitting.{size_bounds}
 use Rattle.putting.proofs.put_words.Goals as goal
 
@@ -44,13 +43,7 @@ returns-then-not-all_fit c =
     }
 
 pub put_fitting-requires : goal.put_fitting-requires
-put_fitting-requires c =
-    let fit = leb-true _ _ (sym c.they_fit.ensures ∙ c.if-not-they_fit.false) in
-    record {
-      le_size = size_bounds _ (sym c.is_bad_size.ensures ∙ c.if-is_bad_size.false);
-      size_in_bounds = fit;
-      below = fit_below _ _ (sym c.all_fit.ensures ∙ c.if-not-all_fit.false);
-    }
+put_fitting-requires c = record { size_in_bounds = leb-true _ _ (sym c.they_fit.ensures ∙ c.if-not-they_fit.false) }
 
 pub returns : goal.returns
 returns c =

@@ -13,17 +13,20 @@ use Rattle.bits.specs.Fields.{field_of}
 use Rattle.bits.proofs.LawsBelow.{below_drop}
 use Rattle.bits.proofs.LawsElements.{to_end}
 use Rattle.bits.proofs.LawsFields.{bytes_put}
+use Rattle.bits.proofs.LawsFill.{fit_below, below_fit}
 use Rattle.putting.proofs.GroupTurns.{State, ends}
 use Rattle.putting.proofs.bytes.put_bytes.Goals as goal
 
-pub put_plain-requires : goal.put_plain-requires
-put_plain-requires c =
+pub invariant_of-left : goal.invariant_of-left
+invariant_of-left c =
     let words = c.args.words.now in
     record {
       le_size = (omega arith, omega arith);
-      size_in_bounds = simp (to_end, length-drop) (omega arith);
-      below = simp to_end (below_drop 256 (length words) words c.requires.below);
+      fits = simp to_end (below_fit 8 _ (below_drop 256 (length words) words (fit_below 8 words c.requires.fits)));
     }
+
+pub put_plain-requires : goal.put_plain-requires
+put_plain-requires c = record { size_in_bounds = simp (to_end, length-drop) (omega arith) }
 
 -- all words are in front
 passed : (words field room : List ℕ) → Below 256 words → length words ≤ length field → room ≡ laid field 0 words
@@ -45,5 +48,5 @@ passed words field room h fits e =
 pub returns : goal.returns
 returns c =
     ends
-    (passed c.args.words.now c.args.field.now _ c.requires.below c.requires.words_in_bounds c.put_front.ensures)
+    (passed c.args.words.now c.args.field.now _ (fit_below 8 _ c.requires.fits) c.requires.words_in_bounds c.put_front.ensures)
     (omega (arith, c.requires.words_in_bounds)) _ c.put_plain.ensures

@@ -11,11 +11,12 @@ use lib.Pow.{pow_mono, pow_pos, shl_exact}
 use Rattle.bits.proofs.LawsBelow.{below_at}
 use Rattle.bits.proofs.LawsBits.{intake_lt}
 use Rattle.bits.proofs.LawsTurns.{one_shl, top_lt}
+use Rattle.bits.proofs.LawsFill.{fit_below}
 use Rattle.putting.proofs.EachTurns.{start, write_turn, take_turn, fill_turn, finish}
 use Rattle.putting.proofs.each.put_each.Goals as goal
 
 pub loop-at-init : goal.loop-at-init
-loop-at-init c = start _ _ _ c.requires.size_in_bounds c.requires.le_size.0
+loop-at-init c = start _ _ _ c.requires.size_in_bounds c.args.fitting.le_size.0
 
 -- where a word is taken in, fewer than 24 bits are in hand
 acc_lt : (words : List ℕ) (acc have i size : ℕ) → acc < 2 ^ have → Below (2 ^ size) words → have < 8 → size ≤ 16
@@ -39,22 +40,22 @@ overflow_cast-acc c = omega (arith, c.type_inv.words c.loop-at.i)
 pub overflow_add-acc : goal.overflow_add-acc
 overflow_add-acc c =
     let l = c.loop-at in
-    let size = c.args.size in
+    let size = c.args.fitting.size in
     rw (shl_exact l.have size 64 l.invariant.small (omega arith))
     (omega (
       arith,
-      acc_lt c.args.words.now l.acc l.have l.i size l.invariant.small c.requires.below c.if-have-ge8.false c.requires.le_size.1,
+      acc_lt c.args.fitting.words.now l.acc l.have l.i size l.invariant.small (fit_below _ _ c.args.fitting.fits) c.if-have-ge8.false c.args.fitting.le_size.1,
     ))
 
 pub loop-at-preserved-then-i-words : goal.loop-at-preserved-then-i-words
 loop-at-preserved-then-i-words c =
-    rw (shl_exact c.loop-at.have c.args.size 64 c.loop-at.invariant.small (omega arith))
-    (take_turn c.loop-at.invariant (omega arith) c.requires.below c.if-have-ge8.false c.if-i-words.true)
+    rw (shl_exact c.loop-at.have c.args.fitting.size 64 c.loop-at.invariant.small (omega arith))
+    (take_turn c.loop-at.invariant (omega arith) (fit_below _ _ c.args.fitting.fits) c.if-have-ge8.false c.if-i-words.true)
 
 pub loop-at-preserved : goal.loop-at-preserved
 loop-at-preserved c =
     rw (shl_exact c.loop-at.have (8 - c.loop-at.have) 64 c.loop-at.invariant.small (omega arith))
-    (fill_turn c.loop-at.invariant (omega arith) c.requires.le_size.0 c.if-have-ge8.false c.if-i-words.false)
+    (fill_turn c.loop-at.invariant (omega arith) c.args.fitting.le_size.0 c.if-have-ge8.false c.if-i-words.false)
 
 pub shape_of-field : goal.shape_of-field
 shape_of-field c = c.loop-at.invariant.long

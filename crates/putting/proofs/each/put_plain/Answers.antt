@@ -37,25 +37,25 @@ module _ (n size len : ℕ) (most : size ≤ 16) (fits : n * size ≤ len * 8) w
 pub overflow_mul-end : goal.overflow_mul-end
 unfolding end
 overflow_mul-end c =
-    omega (arith, inside (length c.args.words.now) c.args.size (length c.args.field.now) c.requires.le_size.1 c.requires.size_in_bounds)
+    omega (arith, inside (length c.args.fitting.words.now) c.args.fitting.size (length c.args.field.now) c.args.fitting.le_size.1 c.requires.size_in_bounds)
 
 pub overflow_mul-end-2 : goal.overflow_mul-end-2
 overflow_mul-end-2 c =
-    omega (arith, short (length c.args.words.now) c.args.size (length c.args.field.now) c.requires.le_size.1 c.requires.size_in_bounds)
+    omega (arith, short (length c.args.fitting.words.now) c.args.fitting.size (length c.args.field.now) c.args.fitting.le_size.1 c.requires.size_in_bounds)
 
 pub overflow_add-end : goal.overflow_add-end
 overflow_add-end c =
-    omega (arith, short (length c.args.words.now) c.args.size (length c.args.field.now) c.requires.le_size.1 c.requires.size_in_bounds)
+    omega (arith, short (length c.args.fitting.words.now) c.args.fitting.size (length c.args.field.now) c.args.fitting.le_size.1 c.requires.size_in_bounds)
 
 pub overflow_add-end-2 : goal.overflow_add-end-2
 unfolding end
 overflow_add-end-2 c =
-    omega (arith, inside (length c.args.words.now) c.args.size (length c.args.field.now) c.requires.le_size.1 c.requires.size_in_bounds)
+    omega (arith, inside (length c.args.fitting.words.now) c.args.fitting.size (length c.args.field.now) c.args.fitting.le_size.1 c.requires.size_in_bounds)
 
 pub overflow_sub-behind : goal.overflow_sub-behind
 unfolding end
 overflow_sub-behind c =
-    inside (length c.args.words.now) c.args.size (length c.args.field.now) c.requires.le_size.1 c.requires.size_in_bounds
+    inside (length c.args.fitting.words.now) c.args.fitting.size (length c.args.field.now) c.args.fitting.le_size.1 c.requires.size_in_bounds
 
 -- the front of the field when it is cleared
 module _ (at : ℕ) (field cleared : List ℕ) (fits : at ≤ length field)
@@ -78,33 +78,31 @@ module _ (at : ℕ) (field cleared : List ℕ) (fits : at ≤ length field)
 pub slice_bounds-put_each-end-2 : goal.slice_bounds-put_each-end-2
 unfolding end from
 slice_bounds-put_each-end-2 c =
-    let n = length c.args.words.now in
-    let size = c.args.size in
+    let n = length c.args.fitting.words.now in
+    let size = c.args.fitting.size in
     let field = c.args.field.now in
-    let fits = at_most n size (length field) c.requires.le_size.1 c.requires.size_in_bounds c.if-behind-eq0.false in
+    let fits = at_most n size (length field) c.args.fitting.le_size.1 c.requires.size_in_bounds c.if-behind-eq0.false in
     sym (front (from n size (length field)) field _ fits c.clear.ensures)
 
 pub put_each-requires-2 : goal.put_each-requires-2
 unfolding end from
 put_each-requires-2 c =
-    let n = length c.args.words.now in
-    let size = c.args.size in
+    let n = length c.args.fitting.words.now in
+    let size = c.args.fitting.size in
     let field = c.args.field.now in
-    let fits = at_most n size (length field) c.requires.le_size.1 c.requires.size_in_bounds c.if-behind-eq0.false in
+    let fits = at_most n size (length field) c.args.fitting.le_size.1 c.requires.size_in_bounds c.if-behind-eq0.false in
     record {
-      le_size = c.requires.le_size;
       size_in_bounds =
           subst (λ (m : ℕ). n * size ≤ m * 8) (sym (front (from n size (length field)) field _ fits c.clear.ensures))
-          (enough n size (length field) c.requires.le_size.1 c.requires.size_in_bounds);
-      below = c.requires.below;
+          (enough n size (length field) c.args.fitting.le_size.1 c.requires.size_in_bounds);
     }
 
 pub returns : goal.returns
 unfolding end from
 returns c =
-    let n = length c.args.words.now in
-    let size = c.args.size in
+    let n = length c.args.fitting.words.now in
+    let size = c.args.fitting.size in
     let field = c.args.field.now in
-    let fits = at_most n size (length field) c.requires.le_size.1 c.requires.size_in_bounds c.if-behind-eq0.false in
-    both (from n size (length field)) field _ fits c.clear.ensures size c.args.words.now _
-    (enough n size (length field) c.requires.le_size.1 c.requires.size_in_bounds) c.put_each-2.ensures
+    let fits = at_most n size (length field) c.args.fitting.le_size.1 c.requires.size_in_bounds c.if-behind-eq0.false in
+    both (from n size (length field)) field _ fits c.clear.ensures size c.args.fitting.words.now _
+    (enough n size (length field) c.args.fitting.le_size.1 c.requires.size_in_bounds) c.put_each-2.ensures

@@ -15,8 +15,8 @@ use Rattle.putting.proofs.groups.group_from.Goals as goal
 pub returns : goal.returns
 unfolding field_of
 returns c =
-    let four = take 4 (drop c.args.i c.args.words.now) in
-    let count : length four ≡ 4 = length-take-le 4 (drop c.args.i c.args.words.now)
-    (omega (arith, c.requires.i_in_bounds, length-drop c.args.i c.args.words.now)) in
+    let four = take 4 (drop c.args.i c.args.fitting.words.now) in
+    let count : length four ≡ 4 = length-take-le 4 (drop c.args.i c.args.fitting.words.now)
+    (omega (arith, c.requires.i_in_bounds, length-drop c.args.i c.args.fitting.words.now)) in
     ap (digits 256 8) c.turned.ensures ∙ turned_digits c.joined.result ∙ ap (words 8 8) c.joined.ensures
-    ∙ ap (λ (n : ℕ). words 8 8 (spell c.args.size four ++ replicate (64 - n * c.args.size) 0)) (sym count)
+    ∙ ap (λ (n : ℕ). words 8 8 (spell c.args.fitting.size four ++ replicate (64 - n * c.args.fitting.size) 0)) (sym count)

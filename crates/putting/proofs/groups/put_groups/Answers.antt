@@ -9,6 +9,7 @@ use borrow.Rule.Slice.PartMut.{same_len_mid}
 use Rattle.bits.proofs.LawsBelow.{below_drop}
 use Rattle.bits.proofs.LawsElements.{to_end}
 use Rattle.bits.proofs.LawsFitting.{Grouped, grouped, sixteen_left}
+use Rattle.bits.proofs.LawsFill.{fit_below, below_fit}
 use Rattle.putting.proofs.GroupTurns.{start, inside, enough, within, turn, ends}
 use Rattle.putting.proofs.groups.put_groups.Goals as goal
 
@@ -28,14 +29,20 @@ overflow_sub-words g c = c.loop-i.invariant.done
 after : (at size n : ℕ) → Grouped size → at + size / 2 * 3 + 8 ≤ n → at + size * 2 ≤ n
 after at size n g h = omega (arith, g.most, g.even)
 
+pub invariant_of-fitting : goal.invariant_of-fitting
+invariant_of-fitting g c =
+    let sizes = grouped c.requires.fact in
+    record {
+      le_size = (omega (arith, sizes.least), omega (arith, sizes.most));
+      fits = c.requires.fits;
+    }
+
 pub put_sixteen-requires : goal.put_sixteen-requires
 put_sixteen-requires g c =
     let sizes = grouped c.requires.fact in
     record {
-      le_size = (omega (arith, sizes.least), omega (arith, sizes.most));
       size_value = sizes.even;
       i_in_bounds = omega (arith, sixteen_left g.row.SIZE _ sizes c.loop-i-test.true);
-      below = c.requires.below;
       size_in_bounds = within c.loop-i.invariant c.requires.size_in_bounds sizes c.loop-i-test.true;
     }
 
@@ -65,18 +72,21 @@ pub loop-i-preserved : goal.loop-i-preserved
 loop-i-preserved g c =
     turn c.loop-i.invariant c.requires.size_in_bounds (grouped c.requires.fact) c.loop-i-test.true c.put_sixteen.ensures
 
-pub slice_bounds-put_plain-count-2 : goal.slice_bounds-put_plain-count-2
-slice_bounds-put_plain-count-2 g c = omega (arith, c.loop-i.invariant.long, inside c.loop-i.invariant c.requires.size_in_bounds)
+pub slice_bounds-put_plain-count : goal.slice_bounds-put_plain-count
+slice_bounds-put_plain-count g c = omega (arith, c.loop-i.invariant.long, inside c.loop-i.invariant c.requires.size_in_bounds)
+
+pub invariant_of-left : goal.invariant_of-left
+invariant_of-left g c =
+    let sizes = grouped c.requires.fact in
+    record {
+      le_size = (omega (arith, sizes.least), omega (arith, sizes.most));
+      fits = simp to_end (below_fit g.row.SIZE _ (below_drop _ c.loop-i.i c.args.words.now (fit_below _ _ c.requires.fits)));
+    }
 
 pub put_plain-requires : goal.put_plain-requires
 put_plain-requires g c =
-    let sizes = grouped c.requires.fact in
     let left = enough c.loop-i.invariant c.requires.size_in_bounds in
-    record {
-      le_size = (omega (arith, sizes.least), omega (arith, sizes.most));
-      size_in_bounds = simp (to_end, length-drop) (omega (arith, c.loop-i.invariant.long, left));
-      below = simp to_end (below_drop _ c.loop-i.i c.args.words.now c.requires.below);
-    }
+    record { size_in_bounds = simp (to_end, length-drop) (omega (arith, c.loop-i.invariant.long, left)) }
 
 pub shape_of-field : goal.shape_of-field
 shape_of-field g c =

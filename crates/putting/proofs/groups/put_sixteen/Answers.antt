@@ -15,15 +15,15 @@ pub returns : goal.returns
 returns c =
     let room = c.args.field.now in
     let at = c.args.at in
-    let size = c.args.size in
+    let size = c.args.fitting.size in
     let half = size / 2 in
-    let ws = drop c.args.i c.args.words.now in
+    let ws = drop c.args.i c.args.fitting.words.now in
     let even = c.requires.size_value in
-    let most = c.requires.le_size.1 in
-    let enough : 16 ≤ length ws = omega (arith, c.requires.i_in_bounds, length-drop c.args.i c.args.words.now) in
+    let most = c.args.fitting.le_size.1 in
+    let enough : 16 ≤ length ws = omega (arith, c.requires.i_in_bounds, length-drop c.args.i c.args.fitting.words.now) in
     let inside : at + half * 3 + 8 ≤ length room = c.requires.size_in_bounds in
-    let behind : (n : ℕ) → field_of size 8 (take 4 (drop (c.args.i + n) c.args.words.now)) ≡ field_of size 8 (take 4 (drop n ws)) =
-    λ n. ap (λ (l : List ℕ). field_of size 8 (take 4 l)) (sym (drop-drop n c.args.i c.args.words.now)) in
+    let behind : (n : ℕ) → field_of size 8 (take 4 (drop (c.args.i + n) c.args.fitting.words.now)) ≡ field_of size 8 (take 4 (drop n ws)) =
+    λ n. ap (λ (l : List ℕ). field_of size 8 (take 4 l)) (sym (drop-drop n c.args.i c.args.fitting.words.now)) in
     four_more size 12 (half * 3) (8 - half) (half * 2 + 8) at ws room (omega (arith, even)) (omega (arith, most)) (omega arith)
     (omega (arith, most)) (omega arith) (omega arith)
     (four_more size 8 (half * 2) (8 - half) (half + 8) at ws room (omega (arith, even)) (omega (arith, most)) (omega arith)
