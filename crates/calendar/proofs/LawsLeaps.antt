@@ -4,7 +4,7 @@ use mathlib.Core.Path.{◌≡◌, refl, sym, ◌∙◌}
 use Prim.Native.Nat.{ℕ, suc, ◌+◌, ◌≤◌, ◌<◌}
 use native.Mathlib.Omega.{arith}
 use mathlib.Core.Bool.{Bool, true, false, ◌&&◌, ◌||◌}
-use mathlib.Core.List.{List}
+use mathlib.Core.List.{List, [], ◌∷◌, foldl}
 use lib.Dec.{eqb}
 use mir.Val.{bool_byte}
 use lib.ListN.{length, get_or, take, drop}
@@ -23,23 +23,14 @@ pub as_one : (t : Bool) → bool_byte t ≡ pick t 1 0
 as_one true = refl
 as_one false = refl
 
+-- ---- whether it has a day
+
+pub find_all : (n : ℕ) (found : Bool) (ds : List ℕ) → foldl (λ (t : Bool) (d : ℕ). t || eqb d n) found ds ≡ (found || listed ds n)
+unfolding listed
+find_all n found [] = or_false found
+find_all n found (d ∷ ds) = find_all n (found || eqb d n) ds ∙ or_assoc found (eqb d n) (listed ds n)
+
 module _ (leaps : List ℕ) (n : ℕ) where
-  -- ---- whether it has a day
-
-  abbrev has : Bool → List ℕ → Bool
-  has found ds = found || listed ds n
-
-  abbrev pub Finding : Bool → ℕ → Type 0
-  Finding found i = Walking has false leaps found i
-
-  pub find_next : {found : Bool} {i : ℕ} → Finding found i → i < length leaps → Finding (found || eqb (get_or leaps i 0) n) (i + 1)
-  unfolding listed
-  find_next {found} {i} s h = step has false leaps s h (or_assoc found (eqb (get_or leaps i 0) n) (listed (drop (suc i) leaps) n))
-
-  pub found_all : {found : Bool} {i : ℕ} → Finding found i → length leaps ≤ i → found ≡ listed leaps n
-  unfolding listed
-  found_all {found} s h = or_false found ∙ finish has false leaps s h
-
   -- ---- how many of its days are before one
 
   abbrev more : ℕ → List ℕ → ℕ

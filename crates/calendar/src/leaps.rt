@@ -60,11 +60,9 @@ pub fn is_good_list(leaps: &[u32]) -> bool
 fn holds(leaps: &[u32], number: u32) -> bool
     ensures { result ≡ listed leaps.now number }
 {
-    let mut found = false;
-    for day in leaps {
-        found |= *day == number;
-    }
-    found
+    leaps
+        .iter()
+        .fold(false, |found, day| found | (*day == number))
 }
 
 // A listed day counts for the days behind it, not for itself.
@@ -74,6 +72,7 @@ fn counts_for(day: u32, number: u32) -> bool
     day < number
 }
 
+// A `for`, since `filter` with `count` took half as long again.
 fn count_before(leaps: &[u32], number: u32) -> u64
     ensures { (result ≡ listed_before leaps.now number) × (result ≤ length leaps.now) }
 {

@@ -1,14 +1,17 @@
--- `calendar::leaps::holds` walks the list: what is found so far, or in the rest, is what is found in the whole.
+-- `calendar::leaps::holds` folds the list by `or`.
 -- Assumes nothing.
-use Rattle.ground.proofs.LawsWalk.{start}
-use Rattle.calendar.proofs.LawsLeaps.{find_next, found_all}
+use mathlib.Core.Path.{◌≡◌, ◌∙◌}
+use mathlib.Core.Bool.{Bool, false, ◌||◌}
+use mathlib.Core.List.{foldl}
+use Prim.Native.Nat.{ℕ}
+use lib.Dec.{eqb}
+use Rattle.std.proofs.lemmas.Grind.{common_steps}
+use native.Mathlib.Omega.{arith}
+use Rattle.calendar.proofs.LawsLeaps.{find_all}
 use Rattle.calendar.proofs.leaps.holds.Goals as goal
 
-pub loop-day-init : goal.loop-day-init
-loop-day-init c = start _ _ _
-
-pub loop-day-preserved : goal.loop-day-preserved
-loop-day-preserved c = find_next _ _ c.loop-day.invariant c.loop-day-test.true
-
 pub returns : goal.returns
-returns c = found_all _ _ c.loop-day.invariant c.loop-day-test.false
+returns c =
+    let n = c.args.number in
+    let found : c.fold.result ≡ foldl (λ (t : Bool) (d : ℕ). t || eqb d n) false c.args.leaps.now = grind (arith, common_steps) in
+    found ∙ find_all n false c.args.leaps.now
