@@ -87,8 +87,8 @@ fn row_of(read: Result<Tag, Refusal>) -> [u32; 8]
 fn rows_of(tags: &[Result<Tag, Refusal>; 15], rows: &mut [[u32; 8]; 15])
     ensures { rows.new ≡ map (λ read. row_of (told_tag read)) tags.now }
 {
-    for i in 0..TAGS {
-        rows[i] = row_of(tags[i]);
+    for (i, read) in tags.iter().enumerate() {
+        rows[i] = row_of(*read);
     }
 }
 

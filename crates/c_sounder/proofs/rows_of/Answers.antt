@@ -14,9 +14,6 @@ use Rattle.c_sounder.proofs.rows_of.Goals as goal
 pub loop-i-init : goal.loop-i-init
 loop-i-init c = start _ none _ _ (c.told-tags ∙ sym c.told-rows)
 
-pub bounds-tags-i : goal.bounds-tags-i
-bounds-tags-i c = omega arith
-
 pub bounds-rows-i : goal.bounds-rows-i
 bounds-rows-i c = omega (arith, c.loop-i.invariant.long, c.told-tags)
 
