@@ -4,7 +4,7 @@
 use mathlib.Core.Path.{◌≡◌, refl, sym, ap, ap₂, ◌∙◌, subst}
 use mathlib.Core.List.{List, [], ◌∷◌, ◌++◌}
 use Prim.Native.Nat.{ℕ, zero, suc, ◌+◌, ◌*◌, ◌/◌, ◌%◌, ◌^◌, ◌≤◌, ◌<◌}
-use native.Mathlib.Nat.{zero-mul, one-mul, zero-add, suc-add, zero-lt-suc, mod-lt, pow-suc, div-mul-le_self, lt-div-mul-add}
+use native.Mathlib.Nat.{zero-mul, one-mul, zero-add, add_assoc, suc-add, zero-lt-suc, mod-lt, pow-suc, div-mul-le_self, lt-div-mul-add}
 use native.Mathlib.Omega.{arith}
 use lib.Arith.{lt-one}
 use lib.Count.{ones, ones_cat, count_leading_zeros, leading_length, leading_unique}
@@ -15,6 +15,11 @@ use Rattle.bits.proofs.LawsBits.{bits_mod}
 use Rattle.detectors.specs.Status.{set_in, before_set}
 
 -- ---- how many
+
+pub set_append : (xs ys : List ℕ) → set_in (xs ++ ys) ≡ set_in xs + set_in ys
+unfolding set_in
+set_append [] ys = sym (zero-add (set_in ys))
+set_append (x ∷ xs) ys = ap (λ (n : ℕ). x + n) (set_append xs ys) ∙ sym (add_assoc x (set_in xs) (set_in ys))
 
 ones_bit : (b : ℕ) → b < 2 → ones b ≡ b
 unfolding ones
@@ -41,6 +46,12 @@ set_bits (suc k) n h =
     same_bit b h = omega (arith, ones_bit b h)
 
 -- ---- how many before the first
+
+pub first_here : (xs ys : List ℕ) → before_set xs < length xs → before_set (xs ++ ys) ≡ before_set xs
+unfolding before_set
+first_here [] ys h = absurd (omega arith)
+first_here (zero ∷ xs) ys h = ap suc (first_here xs ys (omega arith))
+first_here (suc x ∷ xs) ys h = refl
 
 pub first_later : (xs ys : List ℕ) → before_set xs ≡ length xs → before_set (xs ++ ys) ≡ length xs + before_set ys
 unfolding before_set

@@ -1,8 +1,8 @@
 // Which of the Sounder's 76 detectors are suspect, by its detector status (504-02 Table 3-10, words 33 to 42): ten bytes with a bit for each
-// detector, which one number holds. What the bits say is in specs/Status.antt, what is promised in specs/Promises.antt.
+// detector, which two numbers of 64 bits hold. What the bits say is in specs/Status.antt, what is promised in specs/Promises.antt.
 #![tactic(auto)]
 
-ghost use Rattle.std.specs.Prelude.{◌≡◌, true, ◌^◌, ◌<◌, eqb, get_or};
+ghost use Rattle.std.specs.Prelude.{◌≡◌, true, ◌++◌, ◌<◌, eqb, get_or};
 ghost use Rattle.bits.specs.Bits.{bits};
 ghost use Rattle.detectors.specs.Status.{detectors, spare_zero, set_in, before_set, place_at, before, suspects_of, inside, asked_of, told};
 
@@ -22,19 +22,26 @@ pub struct Suspects {
     pub first: Option<Detector>,
 }
 
+// The bits of the detectors in the order sent: the first 64, and the last 12.
+#[derive(Clone, Copy)]
+struct Held {
+    high: u64,
+    low: u64,
+}
+
 const CHANNELS: u32 = 19;
 
 const IN_CHANNEL: u32 = 4;
 
-// The bits of the detectors in the order sent. The last 4 of the status stand for no detector and are left out.
-fn held_in(status: [u8; 10]) -> u128
-    ensures { (result < 2 ^ 76) × (detectors status ≡ bits 76 result) }
+// The last 4 bits of the status stand for no detector and are left out.
+fn hold(status: &[u8; 10]) -> Held
+    ensures { (result.low < 4096) × (detectors status.now ≡ bits 64 result.high ++ bits 12 result.low) }
 {
-    let mut sum: u128 = 0;
-    for byte in status {
-        sum = sum * 256 + byte as u128;
+    let [a, b, c, d, e, f, g, h, i, j] = *status;
+    Held {
+        high: u64::from_be_bytes([a, b, c, d, e, f, g, h]),
+        low: u64::from(u16::from_be_bytes([i, j]) / 16),
     }
-    sum / 16
 }
 
 // Whether the last 4 bits, which stand for no detector, are zero.
@@ -42,6 +49,13 @@ pub fn spare_is_zero(status: [u8; 10]) -> bool
     ensures { result ≡ spare_zero status }
 {
     status[9] % 16 == 0
+}
+
+fn count_in(held: Held) -> u32
+    requires { held.low < 4096 }
+    ensures { result ≡ set_in (bits 64 held.high ++ bits 12 held.low) }
+{
+    held.high.count_ones() + held.low.count_ones()
 }
 
 // The detector whose bit has so many before it.
@@ -57,29 +71,36 @@ fn place_at(before: u32) -> Option<Detector>
     })
 }
 
-// In 128 bits the 76 have 52 zeros before them.
-fn first_in(held: u128) -> Option<Detector>
-    requires { held < 2 ^ 76 }
-    ensures { result ≡ place_at (before_set (bits 76 held)) }
+// In 64 bits the last 12 have 52 zeros before them.
+fn first_in(held: Held) -> Option<Detector>
+    requires { held.low < 4096 }
+    ensures { result ≡ place_at (before_set (bits 64 held.high ++ bits 12 held.low)) }
 {
-    place_at(held.leading_zeros() - 52)
+    let before = held.high.leading_zeros();
+    if before < 64 {
+        return place_at(before);
+    }
+    place_at(12 + held.low.leading_zeros())
 }
 
 // Bit i of the 76.
-fn bit_in(held: u128, i: u32) -> bool
+fn bit_in(held: Held, i: u32) -> bool
     requires { i < 76 }
-    ensures { result ≡ eqb (get_or (bits 76 held) i 0) 1 }
+    ensures { result ≡ eqb (get_or (bits 64 held.high ++ bits 12 held.low) i 0) 1 }
 {
-    (held >> (75 - i)) % 2 == 1
+    if i < 64 {
+        return (held.high >> (63 - i)) % 2 == 1;
+    }
+    (held.low >> (75 - i)) % 2 == 1
 }
 
 // The suspect detectors, counted, and the first of them.
 pub fn suspects_of(status: [u8; 10]) -> Suspects
     ensures { result ≡ suspects_of status }
 {
-    let held = held_in(status);
+    let held = hold(&status);
     Suspects {
-        count: held.count_ones(),
+        count: count_in(held),
         first: first_in(held),
     }
 }
@@ -105,5 +126,5 @@ pub fn ask(status: [u8; 10], channel: u32, detector: u32) -> Result<bool, Refusa
     if !is_inside(channel, detector) {
         return Err(Refusal::NoRecord);
     }
-    Ok(bit_in(held_in(status), bits_before(channel, detector)))
+    Ok(bit_in(hold(&status), bits_before(channel, detector)))
 }

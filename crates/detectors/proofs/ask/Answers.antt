@@ -22,4 +22,4 @@ unfolding asked_of
 returns c =
     yes _ c.is_inside.ensures c.if-not-is_inside.false
     (ap {B = Asked} (λ (t : Bool). record { number = 0; suspect = t })
-    (c.bit_in.ensures ∙ ap₂ (λ (bs : List ℕ) (i : ℕ). eqb (get_or bs i 0) 1) (sym c.held_in.ensures.1) c.bits_before.ensures.0))
+    (c.bit_in.ensures ∙ ap₂ (λ (bs : List ℕ) (i : ℕ). eqb (get_or bs i 0) 1) (sym c.hold.ensures.1) c.bits_before.ensures.0))
