@@ -7,7 +7,7 @@ ghost use Rattle.bits.specs.Digits.{digits};
 ghost use Rattle.bits.specs.Fields.{words_of};
 ghost use Rattle.taking.specs.Halves.{low_bits};
 
-use crate::each::take_each;
+use crate::each::{Source, take_each};
 
 // The eight bytes of the field from `at` on as a number, the first one highest: a group, and the bytes behind it that come with the load. For
 // a compiler this is one load and one turn; `first_chunk` and `copy_from_slice` leave tests in it, and a turn then stays out of its loop.
@@ -48,12 +48,11 @@ fn four_of(x: u64, size: usize) -> u64
 }
 
 // Four words of the field from byte `at` on, side by side.
-fn four_from(field: &[u8], at: usize, size: usize) -> u64
-    requires le_size { (1 ≤ size) × (size ≤ 16) }
-    requires at_in_bounds { at + 8 ≤ length field.now }
-    ensures { digits 65536 4 result ≡ words size 4 (sent (drop at field.now)) }
+fn four_from(source: Source<'_>, at: usize) -> u64
+    requires at_in_bounds { at + 8 ≤ length source.field.now }
+    ensures { digits 65536 4 result ≡ words source.entry.size 4 (sent (drop at source.entry.field.now)) }
 {
-    four_of(eight_from(field, at), size)
+    four_of(eight_from(source.field, at), source.size as usize)
 }
 
 // The four words of `x` into the room from `i` on: for a compiler this is one store.
@@ -69,18 +68,17 @@ fn put_four(x: u64, room: &mut [u16], i: usize)
 
 // Sixteen words of the field from byte `at` on, into the room from `i` on. All four groups are read before one is stored: the compiler does
 // not know that field and room are apart, and would otherwise do one group after the other.
-fn take_sixteen(field: &[u8], at: usize, size: usize, room: &mut [u16], i: usize)
-    requires le_size { (1 ≤ size) × (size ≤ 16) }
-    requires size_value { size % 2 ≡ 0 }
-    requires size_in_bounds { at + size / 2 * 3 + 8 ≤ length field.now }
+fn take_sixteen(source: Source<'_>, at: usize, room: &mut [u16], i: usize)
+    requires size_value { source.size % 2 ≡ 0 }
+    requires size_in_bounds { at + source.size / 2 * 3 + 8 ≤ length source.field.now }
     requires i_in_bounds { i + 16 ≤ length room.old }
-    ensures { room.new ≡ laid room.old i (words size 16 (sent (drop at field.now))) }
+    ensures { room.new ≡ laid room.old i (words source.entry.size 16 (sent (drop at source.entry.field.now))) }
 {
-    let half = size / 2;
-    let first = four_from(field, at, size);
-    let second = four_from(field, at + half, size);
-    let third = four_from(field, at + half * 2, size);
-    let fourth = four_from(field, at + half * 3, size);
+    let half = source.size as usize / 2;
+    let first = four_from(source, at);
+    let second = four_from(source, at + half);
+    let third = four_from(source, at + half * 2);
+    let fourth = four_from(source, at + half * 3);
     put_four(first, room, i);
     put_four(second, room, i + 4);
     put_four(third, room, i + 8);
@@ -96,13 +94,23 @@ pub(crate) fn take_groups<const SIZE: u8>(field: &[u8], count: usize, room: &mut
     ensures { room.new ≡ words_of SIZE count field.now ++ drop count room.old }
 {
     let size = SIZE as usize;
+    let source = Source {
+        field,
+        size: SIZE,
+        count,
+    };
     let least = 13 + 56 / size;
     let mut at: usize = 0;
     let mut i: usize = 0;
     while count - i >= least {
-        take_sixteen(field, at, size, room, i);
+        take_sixteen(source, at, room, i);
         at += size * 2;
         i += 16;
     }
-    take_each(&field[at..], size, count - i, &mut room[i..]);
+    let left = Source {
+        field: &field[at..],
+        size: SIZE,
+        count: count - i,
+    };
+    take_each(left, &mut room[i..]);
 }

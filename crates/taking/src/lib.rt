@@ -6,6 +6,7 @@ ghost use Rattle.ground.specs.Refusals.{number_in};
 ghost use Rattle.bits.specs.Fields.{take_answer, room_taken, words_of};
 
 use bits::fitting::{self, EIGHT, SIX, TEN};
+use each::Source;
 use ground::Refusal;
 
 mod bytes;
@@ -13,17 +14,15 @@ mod each;
 mod groups;
 
 // Words that fit the field and the room: those of the format's sizes the quick way, of all others one by one.
-fn take_fitting(field: &[u8], size: u8, count: usize, room: &mut [u16])
-    requires le_size { (1 ≤ size) × (size ≤ 16) }
-    requires size_in_bounds { count * size ≤ length field.now * 8 }
-    requires count_in_bounds { count ≤ length room.old }
-    ensures { room.new ≡ words_of size count field.now ++ drop count room.old }
+fn take_fitting(source: Source<'_>, room: &mut [u16])
+    requires count_in_bounds { source.count ≤ length room.old }
+    ensures { room.new ≡ words_of source.entry.size source.entry.count source.entry.field.now ++ drop source.entry.count room.old }
 {
-    match size {
-        SIX => groups::take_groups::<SIX>(field, count, room),
-        TEN => groups::take_groups::<TEN>(field, count, room),
-        EIGHT => bytes::take_bytes(field, count, room),
-        _ => each::take_each(field, size as usize, count, room),
+    match source.size {
+        SIX => groups::take_groups::<SIX>(source.field, source.count, room),
+        TEN => groups::take_groups::<TEN>(source.field, source.count, room),
+        EIGHT => bytes::take_bytes(source.field, source.count, room),
+        _ => each::take_each(source, room),
     }
 }
 
@@ -41,6 +40,6 @@ pub fn take_words(field: &[u8], size: u8, count: usize, room: &mut [u16]) -> Res
     if room.len() < count {
         return Err(Refusal::SmallRoom);
     }
-    take_fitting(field, size, count, room);
+    take_fitting(Source { field, size, count }, room);
     Ok(())
 }

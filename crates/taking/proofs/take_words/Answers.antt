@@ -1,14 +1,12 @@
 -- `taking::take_words` meets its contract: its tests are those of `take_answer` in their order, and only behind the
 -- last is the room written.
 -- Assumes nothing.
-use mathlib.Core.Path.{refl, sym, ap, ◌∙◌}
+use mathlib.Core.Path.{refl, ap}
 use mathlib.Core.Bool.{not}
 use Prim.Native.Nat.{ℕ}
-use borrow.Author.Rules.{rules}
-use borrow.Author.Tests.{lt-ltb, le-ltb, leb-true}
+use borrow.Author.Tests.{lt-ltb, le-ltb}
 use lib.Dec.{eqb}
 use Rattle.ground.proofs.LawsChoice.{yes, no}
-use Rattle.bits.proofs.LawsFitting.{size_bounds}
 use Rattle.taking.proofs.take_words.Goals as goal
 
 pub returns-then-is_bad_size : goal.returns-then-is_bad_size
@@ -37,14 +35,6 @@ returns-then-room-count c =
     record {
       value = e;
       room_after = no _ (ap (λ (n : ℕ). eqb n 0) e) refl refl;
-    }
-
-pub take_fitting-requires : goal.take_fitting-requires
-take_fitting-requires c =
-    record {
-      le_size = size_bounds _ (sym c.is_bad_size.ensures ∙ c.if-is_bad_size.false);
-      size_in_bounds = leb-true _ _ (sym c.they_fit.ensures ∙ c.if-not-they_fit.false);
-      count_in_bounds = search rules;
     }
 
 pub returns : goal.returns

@@ -9,7 +9,7 @@ use Rattle.taking.proofs.groups.four_from.Goals as goal
 
 pub returns : goal.returns
 returns c =
-    let size = c.args.size in
+    let size = c.args.source.size in
     c.four_of.ensures ∙ ap (words size 4) c.eight_from.ensures
-    ∙ words_within size 4 8 (drop c.args.at c.args.field.now) (omega (arith, c.requires.le_size))
-    (omega (arith, c.requires.at_in_bounds, length-drop c.args.at c.args.field.now))
+    ∙ words_within size 4 8 (drop c.args.at c.args.source.field.now) (omega (arith, c.args.source.le_size))
+    (omega (arith, c.requires.at_in_bounds, length-drop c.args.at c.args.source.field.now))

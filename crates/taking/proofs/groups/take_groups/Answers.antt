@@ -28,19 +28,27 @@ overflow_sub-count g c = c.loop-i.invariant.done
 after : (at size n : ℕ) → Grouped size → at + size / 2 * 3 + 8 ≤ n → at + size * 2 ≤ n
 after at size n g h = omega (arith, g.most, g.even)
 
+pub invariant_of-source : goal.invariant_of-source
+invariant_of-source g c =
+    let sizes = grouped c.requires.fact in
+    record {
+      le_size = (omega (arith, sizes.least), omega (arith, sizes.most));
+      size_in_bounds = c.requires.size_in_bounds;
+    }
+
 pub take_sixteen-requires : goal.take_sixteen-requires
-take_sixteen-requires g c = record {
-  le_size = (omega (arith, (grouped c.requires.fact).least), omega (arith, (grouped c.requires.fact).most));
-  size_value = (grouped c.requires.fact).even;
-  size_in_bounds = within c.loop-i.invariant (grouped c.requires.fact) c.loop-i-test.true;
-  i_in_bounds = omega (
-    arith,
-    c.loop-i.invariant.long,
-    c.requires.count_in_bounds,
-    sixteen_left g.row.SIZE _
-        (grouped c.requires.fact) c.loop-i-test.true,
-  );
-}
+take_sixteen-requires g c =
+    let sizes = grouped c.requires.fact in
+    record {
+      size_value = sizes.even;
+      size_in_bounds = within c.loop-i.invariant sizes c.loop-i-test.true;
+      i_in_bounds = omega (
+        arith,
+        c.loop-i.invariant.long,
+        c.requires.count_in_bounds,
+        sixteen_left g.row.SIZE _ sizes c.loop-i-test.true,
+      );
+    }
 
 pub overflow_mul-at : goal.overflow_mul-at
 overflow_mul-at g c =
@@ -68,14 +76,16 @@ pub loop-i-preserved : goal.loop-i-preserved
 loop-i-preserved g c =
     turn c.loop-i.invariant (grouped c.requires.fact) c.loop-i-test.true c.requires.count_in_bounds c.take_sixteen.ensures
 
-pub take_each-requires : goal.take_each-requires
-take_each-requires g c =
+pub invariant_of-left : goal.invariant_of-left
+invariant_of-left g c =
     let sizes = grouped c.requires.fact in
     record {
       le_size = (omega (arith, sizes.least), omega (arith, sizes.most));
       size_in_bounds = simp (to_end, length-drop) (omega arith);
-      count_in_bounds = simp (to_end, length-drop) (omega arith);
     }
+
+pub take_each-requires : goal.take_each-requires
+take_each-requires g c = record { count_in_bounds = simp (to_end, length-drop) (omega arith) }
 
 pub shape_of-room : goal.shape_of-room
 shape_of-room g c =

@@ -10,10 +10,10 @@ use Rattle.taking.proofs.groups.take_sixteen.Goals as goal
 
 pub returns : goal.returns
 returns c =
-    let field = c.args.field.now in
+    let field = c.args.source.field.now in
     let room = c.args.room.now in
     let at = c.args.at in
-    let size = c.args.size in
+    let size = c.args.source.size in
     let half = size / 2 in
     let i = c.args.i in
     let inside : i ≤ length room = omega (arith, c.requires.i_in_bounds) in
