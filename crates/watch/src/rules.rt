@@ -12,11 +12,10 @@ use watch_rule::{Closing, LAST_OF_SCAN, Rule};
 pub(crate) fn idle(limit: u32) -> Watch
     ensures { result ≡ idle limit }
 {
-    let zero = tag::zero_tag();
     Watch {
         opened: false,
         expected: 0,
-        last: zero,
+        last: tag::zero_tag(),
         limit,
         fill: 0,
     }
@@ -129,8 +128,7 @@ pub(crate) fn on_good(w: Watch, block: u8, valid: u8, t: Tag, leaps: &[u32]) -> 
     ensures { step_in result ≡ on_good leaps.now w block valid t }
 {
     if w.opened {
-        let last = w.last;
-        let d = time::between(last, t, leaps);
+        let d = time::between(w.last, t, leaps);
         on_open(w, block, valid, t, d)
     } else {
         on_idle(w, block, valid, t)
