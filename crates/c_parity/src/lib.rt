@@ -16,12 +16,11 @@ pub extern "C" fn rahmisve_parity_imager(words: &[u16], holds: &mut [u8; 4]) -> 
 {
     match parity::check_sections(Layout::ImagerSpacelook, words) {
         Ok(judged) => {
-            let verdicts = judged.holds;
             *holds = [
-                marked(verdicts[0]),
-                marked(verdicts[1]),
-                marked(verdicts[2]),
-                marked(verdicts[3]),
+                marked(judged.holds[0]),
+                marked(judged.holds[1]),
+                marked(judged.holds[2]),
+                marked(judged.holds[3]),
             ];
             ground::ACCEPTED
         }
@@ -39,8 +38,7 @@ pub extern "C" fn rahmisve_parity_sounder(words: &[u16], holds: &mut [u8; 2]) ->
 {
     match parity::check_sections(Layout::SounderSpacelook, words) {
         Ok(judged) => {
-            let verdicts = judged.holds;
-            *holds = [marked(verdicts[0]), marked(verdicts[1])];
+            *holds = [marked(judged.holds[0]), marked(judged.holds[1])];
             ground::ACCEPTED
         }
         Err(refusal) => {
