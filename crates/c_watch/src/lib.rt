@@ -39,7 +39,7 @@ fn watch_in(row: [u32; 11]) -> Watch
     Watch {
         opened: is_on(row[0]),
         expected: in_byte(row[1]),
-        last: last,
+        last,
         limit: row[9],
         fill: row[10],
     }
@@ -48,8 +48,7 @@ fn watch_in(row: [u32; 11]) -> Watch
 fn row_of(watch: Watch) -> [u32; 11]
     ensures { result ≡ numbers_of_watch watch }
 {
-    let last = watch.last;
-    let time = numbers_of(last);
+    let time = numbers_of(watch.last);
     [
         marked(watch.opened) as u32,
         watch.expected as u32,
@@ -136,9 +135,8 @@ pub extern "C" fn rahmisve_watch_offer(
     ensures count_after { count.new ≡ count_of (step_of leap_days.now (watch_in watch.old) (up_to 255 block) (up_to 255 valid) tag.now).verdict }
     ensures watch_after { watch.new ≡ row_after (step_of leap_days.now (watch_in watch.old) (up_to 255 block) (up_to 255 valid) tag.now) watch.old }
 {
-    let row = *watch;
     let answer = watch::step(
-        watch_in(row),
+        watch_in(*watch),
         in_byte(block),
         in_byte(valid),
         tag,
@@ -146,12 +144,11 @@ pub extern "C" fn rahmisve_watch_offer(
     );
     match answer {
         Ok(stepped) => {
-            let did = stepped.verdict;
-            let (set, many) = handed(did);
-            *verdict = code_of(did);
+            let (set, many) = handed(stepped.verdict);
+            *verdict = code_of(stepped.verdict);
             *fill = set;
             *count = many;
-            if leaves(did) {
+            if leaves(stepped.verdict) {
                 return ground::ACCEPTED;
             }
             *watch = row_of(stepped.next);
