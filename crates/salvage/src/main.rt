@@ -142,9 +142,8 @@ fn deliver(
     requires bytes_in_bounds { salvaged.bytes ≤ length recording.now }
     requires entries_in_bounds { salvaged.entries * 3 ≤ length report.now }
 {
-    let bytes = salvaged.bytes;
     let numbers = salvaged.entries * ENTRY_NUMBERS;
-    save(rt, &recording[..bytes], names)?;
+    save(rt, &recording[..salvaged.bytes], names)?;
     write_report(rt, &report[..numbers], salvaged.blocks)?;
     Ok(())
 }
