@@ -23,10 +23,8 @@ use Rattle.detectors.specs.declared.Detector.{Detector}
 use Rattle.sounder.specs.Judging.{status_of, asked_of}
 use Rattle.watch_rule.specs.declared.Closing.TheVariants.{ClockBack, Late, Broken, Complete}
 use Rattle.watch_bounds.specs.declared.Watch.{Watch}
-use Rattle.watch.specs.Verdicts.{number_of, fill_of, count_of}
+use Rattle.watch.specs.Verdicts.{Verdict, Refused, Stray, Opened, Kept, Closed, number_of, fill_of, count_of}
 use Rattle.watch.specs.Rules.{step_of}
-use Rattle.watch.specs.Verdicts.{Verdict}
-use Rattle.watch.specs.Verdicts.{Refused, Stray, Opened, Kept, Closed}
 use Rattle.recording.specs.Found.{found_at}
 use Rattle.recording.specs.declared.Found.{Found}
 use Rattle.recording.specs.declared.Found.TheVariants.{Whole, Cut, End}
