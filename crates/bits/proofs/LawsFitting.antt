@@ -73,9 +73,6 @@ pub record Grouped (size : ℕ) : Type 0 where
 pub grouped : {size : ℕ} → (size ≡ 6) ⊎ (size ≡ 10) → Grouped size
 grouped {size} h = ⊎_elim (λ e. record { least = omega arith; most = omega arith; even = omega arith }) (λ e. record { least = omega arith; most = omega arith; even = omega arith }) h
 
-pub not_ten : {size : ℕ} → (size ≡ 6) ⊎ (size ≡ 10) → (size ≡ 10 → ⊥) → size ≡ 6
-not_ten h other = ⊎_elim (λ e. e) (λ e. absurd (other e)) h
-
 -- where so many words are left, these are sixteen, and the bytes of three groups and eight more are there
 module _ (size left : ℕ) (g : Grouped size) (h : 13 + 56 / size ≤ left) where
   whole : 56 / size * size + 56 % size ≡ 56

@@ -7,7 +7,7 @@ use native.Mathlib.Omega.{arith}
 use lib.ListN.{length, take, drop, length-append, length-drop}
 use lib.Seq.{take-add, drop_at, length-take-le}
 use Rattle.room.specs.Laid.{laid, laid_inside}
-use Rattle.room.proofs.LawsLaid.{laid_inside_is, laid_then, lay_then}
+use Rattle.room.proofs.LawsLaid.{laid_inside_is, laid_then}
 use Rattle.copies.specs.Copies.{copy_length, copies_length, copy_at}
 use Rattle.recording.specs.Fields.{front_of, written}
 use Rattle.made.specs.Made.{length_by, thrice, made}
@@ -45,7 +45,7 @@ module _ (k bytes : ℕ) (rest : List ℕ) (one : k < 3) (is : bytes ≡ length_
   pub block_put : (r : List ℕ) (at : ℕ) {r₁ r₂ r₃ r₄ r₅ f : List ℕ} → at + 3 + bytes ≤ length r → f ≡ front_of 1 bytes
       → r₁ ≡ laid_inside r at f
       → r₂ ≡ laid r₁ (at + 3) (copy_at k rest) → r₃ ≡ laid r₂ (at + 3 + copy_length) (copy_at k rest) → r₄ ≡ laid r₃ (at + 3 + 2 * copy_length) (copy_at k rest)
-      → r₅ ≡ laid_inside r₄ (at + 3 + copies_length) t
+      → r₅ ≡ laid r₄ (at + 3 + copies_length) t
       → r₅ ≡ laid r at (written (field_by k rest))
   block_put r at {r₁} {r₂} {r₃} {r₄} {r₅} {f} room fe e₁ e₂ e₃ e₄ e₅ =
       let F : List ℕ = front_of 1 bytes in
@@ -60,7 +60,7 @@ module _ (k bytes : ℕ) (rest : List ℕ) (one : k < 3) (is : bytes ≡ length_
       let p₃ : r₃ ≡ laid r at ((F ++ c) ++ c) = laid_then r at (F ++ c) c (at + 3 + copy_length) p₂ e₃ (omega arith) (omega arith) in
       let p₄ : r₄ ≡ laid r at (((F ++ c) ++ c) ++ c) = laid_then r at ((F ++ c) ++ c) c (at + 3 + 2 * copy_length) p₃ e₄ (omega arith) (omega arith) in
       let p₅ : r₅ ≡ laid r at ((((F ++ c) ++ c) ++ c) ++ t) =
-      lay_then r at (((F ++ c) ++ c) ++ c) t (at + 3 + copies_length) p₄ e₅ (omega arith) (omega arith) in
+      laid_then r at (((F ++ c) ++ c) ++ c) t (at + 3 + copies_length) p₄ e₅ (omega arith) (omega arith) in
       let flat : (((F ++ c) ++ c) ++ c) ++ t ≡ F ++ (thrice c ++ t) =
       append_assoc ((F ++ c) ++ c) c t ∙ append_assoc (F ++ c) c (c ++ t) ∙ append_assoc F c (c ++ (c ++ t))
       ∙ ap (λ (l : List ℕ). F ++ l) (ap (λ (l : List ℕ). c ++ l) (sym (append_assoc c c t)) ∙ sym (append_assoc c (c ++ c) t)) in

@@ -19,6 +19,16 @@ fn put_copy(rest: &[u8], copy: usize, recording: &mut [u8], at: usize)
     room::lay(copy_at(rest, copy), recording, at);
 }
 
+// Byte by byte: where the length is not known, a copy by the library is a call of `memmove`, and the archive is to need nothing but `memcpy`.
+fn put_behind(bytes: &[u8], recording: &mut [u8], at: usize)
+    requires { at + length bytes.now ≤ length recording.old }
+    ensures { recording.new ≡ laid recording.old at bytes.now }
+{
+    for (i, byte) in bytes.iter().enumerate() {
+        recording[at + i] = *byte;
+    }
+}
+
 // The block that a copy makes, three times that copy and what lies behind the three places, from `at` on; where it ends.
 pub(crate) fn put_block(
     rest: &[u8],
@@ -38,6 +48,6 @@ pub(crate) fn put_block(
     put_copy(rest, copy, recording, body);
     put_copy(rest, copy, recording, body + COPY_BYTES);
     put_copy(rest, copy, recording, body + 2 * COPY_BYTES);
-    room::lay(&rest[COPIES_BYTES..bytes], recording, body + COPIES_BYTES);
+    put_behind(&rest[COPIES_BYTES..bytes], recording, body + COPIES_BYTES);
     body + bytes
 }

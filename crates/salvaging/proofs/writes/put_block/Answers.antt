@@ -14,5 +14,5 @@ returns c =
       value = refl;
       recording_after = block_put c.args.copy c.args.bytes c.args.rest.now p.0 p.1 p.2 c.args.recording.now c.args.at c.requires.bytes_in_bounds
           c.front_of-front.ensures
-          c.lay.ensures.room_after c.put_copy.ensures c.put_copy-2.ensures c.put_copy-3.ensures c.lay-2.ensures.room_after;
+          c.lay.ensures.room_after c.put_copy.ensures c.put_copy-2.ensures c.put_copy-3.ensures c.put_behind.ensures;
     }
