@@ -9,7 +9,8 @@ use lib.Dec.{T, eqb, ltb, lit<, eqb→eq}
 use borrow.Author.Tests.{eq-eqb}
 use Rattle.ground.specs.Choice.{pick}
 use Rattle.ground.proofs.LawsTests.{T-first, T-second}
-use Rattle.placement.specs.Placement.{PlacedAnswer, group_of, held_in, records_held, place_of}
+use Rattle.placement.specs.Placement.{PlacedAnswer}
+use Rattle.placement.specs.Placement.{group_of, held_in, records_held, place_of}
 use Rattle.placement.specs.Promises.{HeldOnce}
 use Rattle.placement.proofs.LawsBelow.{below, below_at}
 use Rattle.placement.proofs.LawsPlacement.{unknown_block, unknown_version, absent}

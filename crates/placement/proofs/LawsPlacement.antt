@@ -30,7 +30,7 @@ module _ (block version k : ℕ) where
   unknown_version hb h = simp (le-ltb 11 block hb, lt-ltb 3 version h)
 
   module _ (hb : block ≤ 11) (hv : version ≤ 3) where
-    pub last_test : (t : Bool) → no_record block version k ≡ t
+    last_test : (t : Bool) → no_record block version k ≡ t
         → place_of block version k ≡ pick t (refused_by 13) (accepted (get_or (held_in block version) (k - 1) (0 det 0)))
     unfolding place_of
     last_test true e = simp (le-ltb 11 block hb, le-ltb 3 version hv, e)

@@ -3,3 +3,4 @@ pub mod KeepsOnce
 pub mod LawsBelow
 pub mod LawsPlacement
 pub mod LawsRecords
+pub mod Rows

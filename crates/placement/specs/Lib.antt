@@ -1,2 +1,3 @@
 pub mod Placement
 pub mod Promises
+pub mod Table

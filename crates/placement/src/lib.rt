@@ -1,9 +1,11 @@
 // The channel and the detector of a record of blocks 1 to 10: the placement by version of 504-02 section 3.2.1, two
-// tables of constants and a lookup in each. What is right is in specs/Placement.antt.
+// tables of constants and a lookup in each. What is right is in specs/Placement.antt, how an entry is read in specs/Table.antt.
 #![tactic(auto)]
 
-ghost use Rattle.std.specs.Prelude.{◌≡◌, ◌<◌, length};
-ghost use Rattle.placement.specs.Placement.{group_of, held_in, told, place_of};
+ghost use Rattle.std.specs.Prelude.{◌≡◌, ◌<◌, ◌≤◌};
+ghost use Rattle.row.specs.Rows.{last_version};
+ghost use Rattle.placement.specs.Placement.{group_of, place_of, told};
+ghost use Rattle.placement.specs.Table.{named_by};
 
 use ground::Refusal;
 
@@ -14,40 +16,60 @@ pub struct Placed {
     pub detector: u8,
 }
 
-// Channel and detector, as the table has them.
+// Channel and detector. 0 and 0: the block has no such record; rows as long as what they hold would be pointers, and the archive has no data.
 #[derive(Clone, Copy)]
 struct Held(u8, u8);
 
-// What the records of blocks 1 and 2 hold, in their order, by version group. Version 3 has the eighth infrared detector, 6/2.
-const HELD: [[&[Held]; 2]; 3] = [
+const FIRST_INFRARED: u8 = 1;
+
+const FIRST_VISIBLE: u8 = 3;
+
+// Records that the table has room for in an infrared block.
+const MOST_RECORDS: u8 = 4;
+
+// Blocks 1 and 2 by version group. Version 3 has the eighth infrared detector, 6/2.
+const HELD: [[[Held; 4]; 2]; 3] = [
     // Versions 0, 1.
     [
-        &[Held(4, 1), Held(4, 2), Held(5, 1), Held(5, 2)],
-        &[Held(2, 1), Held(2, 2), Held(3, 1)],
+        [Held(4, 1), Held(4, 2), Held(5, 1), Held(5, 2)],
+        [Held(2, 1), Held(2, 2), Held(3, 1), Held(0, 0)],
     ],
     // Version 2.
     [
-        &[Held(2, 1), Held(2, 2), Held(3, 1), Held(3, 2)],
-        &[Held(4, 1), Held(4, 2), Held(6, 1)],
+        [Held(2, 1), Held(2, 2), Held(3, 1), Held(3, 2)],
+        [Held(4, 1), Held(4, 2), Held(6, 1), Held(0, 0)],
     ],
     // Version 3.
     [
-        &[Held(2, 1), Held(2, 2), Held(3, 1), Held(3, 2)],
-        &[Held(4, 1), Held(4, 2), Held(6, 1), Held(6, 2)],
+        [Held(2, 1), Held(2, 2), Held(3, 1), Held(3, 2)],
+        [Held(4, 1), Held(4, 2), Held(6, 1), Held(6, 2)],
     ],
 ];
 
 // Blocks 3 to 10, a record each, in every version.
-const VISIBLE: [&[Held]; 8] = [
-    &[Held(1, 5)],
-    &[Held(1, 6)],
-    &[Held(1, 7)],
-    &[Held(1, 8)],
-    &[Held(1, 1)],
-    &[Held(1, 2)],
-    &[Held(1, 3)],
-    &[Held(1, 4)],
+const VISIBLE: [Held; 8] = [
+    Held(1, 5),
+    Held(1, 6),
+    Held(1, 7),
+    Held(1, 8),
+    Held(1, 1),
+    Held(1, 2),
+    Held(1, 3),
+    Held(1, 4),
 ];
+
+// What an entry of a table says.
+fn named(held: Held) -> Result<Placed, Refusal>
+    ensures { told result ≡ named_by held }
+{
+    if held.0 == 0 {
+        return Err(Refusal::NoRecord);
+    }
+    Ok(Placed {
+        channel: held.0,
+        detector: held.1,
+    })
+}
 
 fn group_of(version: u8) -> usize
     ensures { (result ≡ group_of version) × (result < 3) }
@@ -59,14 +81,35 @@ fn group_of(version: u8) -> usize
     }
 }
 
-// What the records of a block hold, in their order.
-fn held_in(block: u8, version: u8) -> &'static [Held]
-    ensures { result.now ≡ held_in block version }
+// The records of blocks 1 and 2.
+fn infrared(block: u8, version: u8, record: u8) -> Result<Placed, Refusal>
+    requires { (1 ≤ block) × ((block ≤ 2) × (version ≤ last_version)) }
+    ensures { told result ≡ place_of block version «record» }
 {
-    match block {
-        1 | 2 => HELD[group_of(version)][block as usize - 1],
-        3..=10 => VISIBLE[block as usize - 3],
-        _ => &[],
+    if record < 1 {
+        return Err(Refusal::NoRecord);
+    }
+    if MOST_RECORDS < record {
+        return Err(Refusal::NoRecord);
+    }
+    let group = group_of(version);
+    let b = (block - FIRST_INFRARED) as usize;
+    let k = (record - 1) as usize;
+    let table = HELD;
+    named(table[group][b][k])
+}
+
+// The one record of each of blocks 3 to 10, where the version does not enter.
+fn visible(block: u8, record: u8) -> Result<Placed, Refusal>
+    requires { (3 ≤ block) × (block ≤ 10) }
+    ensures { told result ≡ place_of block 0 «record» }
+{
+    if record == 1 {
+        let at = (block - FIRST_VISIBLE) as usize;
+        let table = VISIBLE;
+        named(table[at])
+    } else {
+        Err(Refusal::NoRecord)
     }
 }
 
@@ -88,10 +131,9 @@ pub fn place(block: u8, version: u8, record: u8) -> Result<Placed, Refusal>
     if row::LAST_VERSION < version {
         return Err(Refusal::UnknownVersion);
     }
-    let held = held_in(block, version);
-    if (record == 0) | (held.len() < record as usize) {
-        return Err(Refusal::NoRecord);
+    match block {
+        1 | 2 => infrared(block, version, record),
+        3..=10 => visible(block, record),
+        _ => Err(Refusal::NoRecord),
     }
-    let Held(channel, detector) = held[record as usize - 1];
-    Ok(Placed { channel, detector })
 }

@@ -1,14 +1,12 @@
--- `placement::place` meets its contract: the tests in their order, then the place that the table has.
+-- `placement::place` meets its contract: the tests in their order, and a block that is neither infrared nor visible has no record.
 -- Assumes nothing.
-use Prim.Native.Nat.{◌-◌}
-use mathlib.Core.Path.{sym, ap, ◌∙◌}
-use mathlib.Core.Bool.{true, false, ◌||◌}
-use mathlib.Core.List.{List}
-use lib.Dec.{eqb, ltb}
-use lib.ListN.{length, get_or}
-use Rattle.placement.specs.declared.Held.{Held}
-use Rattle.placement.specs.Placement.{◌det◌, records_held, accepted}
-use Rattle.placement.proofs.LawsPlacement.{unknown_block, unknown_version, last_test}
+use mathlib.Core.Path.{◌≡◌, sym, ◌∙◌}
+use Prim.Native.Nat.{ℕ, ◌≤◌}
+use native.Mathlib.Omega.{arith}
+use Rattle.placement.specs.Placement.{records_held, refused_by, place_of}
+use Rattle.placement.proofs.KeepsPlacement.{every_version}
+use Rattle.placement.proofs.LawsPlacement.{unknown_block, unknown_version, absent}
+use Rattle.placement.proofs.LawsRecords.{no_records}
 use Rattle.placement.proofs.place.Goals as goal
 
 pub returns-then-block-gt-LAST_BLOCK : goal.returns-then-block-gt-LAST_BLOCK
@@ -17,19 +15,17 @@ returns-then-block-gt-LAST_BLOCK c = sym (unknown_block _ _ _ c.if-block-gt-LAST
 pub returns-then-version-gt-LAST_VERSION : goal.returns-then-version-gt-LAST_VERSION
 returns-then-version-gt-LAST_VERSION c = sym (unknown_version _ _ _ c.if-block-gt-LAST_BLOCK.false c.if-version-gt-LAST_VERSION.true)
 
-pub returns-then-record-held : goal.returns-then-record-held
-unfolding records_held
-returns-then-record-held c =
-    let a = c.args in
-    sym
-    (last_test a.block a.version a.«record» c.if-block-gt-LAST_BLOCK.false c.if-version-gt-LAST_VERSION.false true
-    (ap (λ (held : List Held). eqb a.«record» 0 || ltb (length held) a.«record») (sym c.held_in-held.ensures) ∙ c.if-record-held.true))
+pub returns-in-3-to-10 : goal.returns-in-3-to-10
+returns-in-3-to-10 c = c.visible.ensures ∙ sym (every_version _ _ _ (omega arith) (omega arith) (omega arith))
 
-pub returns : goal.returns
-unfolding records_held
-returns c =
-    let a = c.args in
-    ap (λ (held : List Held). accepted (get_or held (a.«record» - 1) (0 det 0))) c.held_in-held.ensures
-    ∙ sym
-    (last_test a.block a.version a.«record» c.if-block-gt-LAST_BLOCK.false c.if-version-gt-LAST_VERSION.false false
-    (ap (λ (held : List Held). eqb a.«record» 0 || ltb (length held) a.«record») (sym c.held_in-held.ensures) ∙ c.if-record-held.false))
+-- a block without records
+none : (block version k : ℕ) → block ≤ 11 → version ≤ 3 → ((1 ≤ block) → block ≤ 10 → ⊥) → refused_by 13 ≡ place_of block version k
+none block version k b v out =
+    let no : records_held block version ≡ 0 = no_records block version b v out in
+    sym (absent block version k b v (λ l m. omega arith))
+
+pub returns-in_default : goal.returns-in_default
+returns-in_default c = none _ _ _ (omega arith) (omega arith) (λ l m. omega arith)
+
+pub returns-in_default-2 : goal.returns-in_default-2
+returns-in_default-2 c = none _ _ _ (omega arith) (omega arith) (λ l m. omega arith)
