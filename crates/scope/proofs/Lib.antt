@@ -1,3 +1,4 @@
+pub mod LawsThirds
 pub mod LawsReasons
 pub mod LawsFormat
 pub mod LawsGrounds
