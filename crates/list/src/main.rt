@@ -103,6 +103,8 @@ fn list_fields<R: Read>(
             Found::Whole(tag, start, length) => {
                 let end = start + length;
                 let line = recording::line_of(seen, tag, &field[start..end], room);
+                // The number that is printed is that of this field.
+                prove!(line.seq == seen + 1);
                 write_line(rt, line)?;
             }
             Found::Cut => return finish(rt, input, true, seen),
