@@ -1,4 +1,4 @@
--- The three ends of a line: another tag, a block refused, a block listed, which has a plan.
+-- The three ends of a line: another tag, a block refused, a block listed, which has a plan. Nothing is lost in the line that is told.
 -- Assumes nothing.
 use mathlib.Core.Path.{◌≡◌, refl, sym, ap, ◌∙◌}
 use mathlib.Core.List.{List, ◌++◌}
@@ -6,6 +6,9 @@ use Prim.Native.Nat.{ℕ, ◌+◌, ◌<◌}
 use borrow.Author.Tests.{eq-eqb, ne_eqb, lt-ltb}
 use lib.Dec.{eqb}
 use lib.ListN.{length}
+use Rattle.std.specs.Prelude.{Result}
+use Rattle.ground.specs.declared.Refusal.{Refusal}
+use Rattle.ground.proofs.LawsRefusals.{told_once}
 use Rattle.ground.proofs.LawsChoice.{yes, no, either}
 use Rattle.ground.proofs.LawsGrounds.{none_first, first_none, none_split, accepts}
 use Rattle.copies.specs.Copies.{header_in, copies_grounds}
@@ -16,7 +19,8 @@ use Rattle.block.specs.Answers.{Answer, accepted_answer, refused_answer, answer_
 use Rattle.block.proofs.LawsReader.{refused_alike}
 use Rattle.block.proofs.KeepsReader.{number_is}
 use Rattle.recording.specs.declared.Line.{Line}
-use Rattle.recording.specs.Lines.{most_fields, seq_after, holds_block, refused_line, listed, line_by, line_of, room_listed}
+use Rattle.recording.specs.declared.Listed.{Listed}
+use Rattle.recording.specs.Lines.{most_fields, seq_after, holds_block, refused_line, listed, told_line, line_by, line_of, room_listed}
 
 -- a line has the number of its field, whatever it is answered
 pub line_seq : (before tag : ℕ) (body : List ℕ) (room : ℕ) → (line_of before tag body room).seq ≡ seq_after before
@@ -40,6 +44,11 @@ accepted_plan block room z =
     let by : refusal_by h block room ≡ 0 = sym (refused_alike block room copies) ∙ none in
     ap (λ (a : Answer). (plan_of a.header).number) (sym (accepts (accepted_answer block) refused_answer none))
     ∙ plan_number h ∙ none_first (plan_grounds h) (none_split (plan_grounds h) (field_by h block room) (first_none (grounds_by h block room) refl by)).0
+
+-- two results of which the same line is told are equal
+pub line_told_once : (seq : ℕ) {r s : Result Listed Refusal} → told_line seq r ≡ told_line seq s → r ≡ s
+line_told_once seq e =
+    told_once (told_line seq) (λ l. l.answer) (λ l. record { block = l.block; version = l.version; words = l.words }) (λ v. refl) (λ r. refl) (λ v. refl) e refl
 
 module _ (seq tag : ℕ) (body room : List ℕ) where
   abbrev pub Ends : Line → List ℕ → Type 0

@@ -8,6 +8,7 @@ use Rattle.header.specs.Plans.{plan_of}
 use Rattle.block.specs.Answers.{Answer, answer_of, room_after}
 use Rattle.recording.specs.Fields.{Field}
 use Rattle.recording.specs.declared.Line.{Line}
+use Rattle.recording.specs.declared.Listed.{Listed}
 
 -- tag 1 holds a block
 abbrev pub holds_block : ℕ → Bool
@@ -32,8 +33,8 @@ listed seq a =
     (refused_line seq a.number)
 
 -- the line of what is answered
-abbrev pub told_line : ℕ → Result Line Refusal → Line
-told_line seq (Ok line) = line
+abbrev pub told_line : ℕ → Result Listed Refusal → Line
+told_line seq (Ok l) = record { seq = seq; answer = 0; block = l.block; version = l.version; words = l.words }
 told_line seq (Err r) = refused_line seq (number_of r)
 
 -- a tag other than 1 is 15

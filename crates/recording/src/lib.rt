@@ -2,7 +2,7 @@
 // has for a field, as numbers.
 #![tactic(auto)]
 
-ghost use Rattle.std.specs.Prelude.{◌≡◌, length};
+ghost use Rattle.std.specs.Prelude.{ℕ, ◌≡◌, length};
 ghost use Rattle.recording.specs.Fields.{front_of};
 ghost use Rattle.recording.specs.Found.{length_at, found_at};
 ghost use Rattle.recording.specs.Lines.{seq_after, told_line, line_by, line_of, room_listed};
@@ -77,9 +77,17 @@ fn seq_after(before: u64) -> u64
     before.saturating_add(1)
 }
 
-// The line of a field that is read like any block where its tag says that it holds one.
-fn block_line(seq: u64, tag: u8, body: &[u8], room: &mut [u16]) -> Result<Line, Refusal>
-    ensures value { told_line seq result ≡ line_by seq tag body.now (length room.old) }
+// What the line of a block that is read has beside its number.
+#[derive(Clone, Copy)]
+struct Listed {
+    block: u8,
+    version: u8,
+    words: usize,
+}
+
+// What is listed of a field that is read like any block where its tag says that it holds one.
+fn block_line(tag: u8, body: &[u8], room: &mut [u16]) -> Result<Listed, Refusal>
+    ensures value { (seq : ℕ) → told_line seq result ≡ line_by seq tag body.now (length room.old) }
     ensures room_after { room.new ≡ room_listed tag body.now room.old }
 {
     if tag != BLOCK {
@@ -87,9 +95,7 @@ fn block_line(seq: u64, tag: u8, body: &[u8], room: &mut [u16]) -> Result<Line, 
     }
     let contents = block::read(body, room)?;
     let plan = header::plan_of(&contents.common.header)?;
-    Ok(Line {
-        seq,
-        answer: ground::ACCEPTED,
+    Ok(Listed {
         block: plan.block,
         version: plan.version,
         words: contents.words,
@@ -102,8 +108,14 @@ pub fn line_of(before: u64, tag: u8, body: &[u8], room: &mut [u16]) -> Line
     ensures room_after { room.new ≡ room_listed tag body.now room.old }
 {
     let seq = seq_after(before);
-    match block_line(seq, tag, body, room) {
-        Ok(line) => line,
+    match block_line(tag, body, room) {
+        Ok(listed) => Line {
+            seq,
+            answer: ground::ACCEPTED,
+            block: listed.block,
+            version: listed.version,
+            words: listed.words,
+        },
         Err(refusal) => Line {
             seq,
             answer: refusal.number(),

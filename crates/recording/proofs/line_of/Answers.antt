@@ -10,7 +10,7 @@ pub returns-in-Ok : goal.returns-in-Ok
 unfolding line_of
 returns-in-Ok c =
     let a = c.args in record {
-      value = c.in-Ok.ensures.value ∙ ap (λ (n : ℕ). line_by n a.tag a.body.now (length a.room.now)) c.seq_after-seq.ensures;
+      value = c.in-Ok.ensures.value c.seq_after-seq.result ∙ ap (λ (n : ℕ). line_by n a.tag a.body.now (length a.room.now)) c.seq_after-seq.ensures;
       room_after = c.in-Ok.ensures.room_after;
     }
 
@@ -19,7 +19,7 @@ unfolding line_of
 returns-in-Err c =
     let a = c.args in record {
       value =
-          ap (refused_line c.seq_after-seq.result) c.number.ensures ∙ c.in-Err.ensures.value
+          ap (refused_line c.seq_after-seq.result) c.number.ensures ∙ c.in-Err.ensures.value c.seq_after-seq.result
           ∙ ap (λ (n : ℕ). line_by n a.tag a.body.now (length a.room.now)) c.seq_after-seq.ensures;
       room_after = c.in-Err.ensures.room_after;
     }
