@@ -50,22 +50,24 @@ pub line_told_once : (seq : ℕ) {r s : Result Listed Refusal} → told_line seq
 line_told_once seq e =
     told_once (told_line seq) (λ l. l.answer) (λ l. record { block = l.block; version = l.version; words = l.words }) (λ v. refl) (λ r. refl) (λ v. refl) e refl
 
-module _ (seq tag : ℕ) (body room : List ℕ) where
-  abbrev pub Ends : Line → List ℕ → Type 0
-  Ends line after = (line ≡ line_by seq tag body (length room)) × (after ≡ room_listed tag body room)
+-- ---- by the number of the line
 
-  pub other_tag : (tag ≡ 1 → ⊥) → Ends (refused_line seq 15) room
+module _ (seq tag : ℕ) (body room : List ℕ) where
+  abbrev pub EndsBy : Line → List ℕ → Type 0
+  EndsBy line after = (line ≡ line_by seq tag body (length room)) × (after ≡ room_listed tag body room)
+
+  pub other_tag_by : (tag ≡ 1 → ⊥) → EndsBy (refused_line seq 15) room
   unfolding room_listed
-  other_tag f = (no _ refl (ne_eqb tag 1 f) refl, no _ refl (ne_eqb tag 1 f) refl)
+  other_tag_by f = (no _ refl (ne_eqb tag 1 f) refl, no _ refl (ne_eqb tag 1 f) refl)
 
   module _ (t : tag ≡ 1) {a : Answer} {after : List ℕ} (e : a ≡ answer_of body (length room)) (r : after ≡ room_after body room) where
     -- what is said of the answer is said of the line
-    block_line : {line : Line} → line ≡ listed seq a → Ends line after
+    block_line_by : {line : Line} → line ≡ listed seq a → EndsBy line after
     unfolding room_listed
-    block_line l = (yes _ refl (eq-eqb tag 1 t) (l ∙ ap (listed seq) e), yes _ refl (eq-eqb tag 1 t) r)
+    block_line_by l = (yes _ refl (eq-eqb tag 1 t) (l ∙ ap (listed seq) e), yes _ refl (eq-eqb tag 1 t) r)
 
-    pub block_refused : (a.number ≡ 0 → ⊥) → Ends (refused_line seq a.number) after
-    block_refused f = block_line (no _ refl (ne_eqb a.number 0 f) refl)
+    pub block_refused_by : (a.number ≡ 0 → ⊥) → EndsBy (refused_line seq a.number) after
+    block_refused_by f = block_line_by (no _ refl (ne_eqb a.number 0 f) refl)
 
     module _ (z : a.number ≡ 0) {p : PlanAnswer} (q : p ≡ plan_of a.header) where
       pub planned : p.number ≡ 0
@@ -73,7 +75,31 @@ module _ (seq tag : ℕ) (body room : List ℕ) where
           ap (λ (x : PlanAnswer). x.number) q ∙ ap (λ (x : Answer). (plan_of x.header).number) e
           ∙ accepted_plan body (length room) (sym (ap (λ (x : Answer). x.number) e) ∙ z)
 
-      pub block_listed : Ends (record { seq = seq; answer = 0; block = p.block; version = p.version; words = a.words }) after
-      block_listed =
-          block_line
+      pub block_listed_by : EndsBy (record { seq = seq; answer = 0; block = p.block; version = p.version; words = a.words }) after
+      block_listed_by =
+          block_line_by
           (yes _ refl (eq-eqb a.number 0 z) (ap (λ (x : PlanAnswer). record { seq = seq; answer = 0; block = x.block; version = x.version; words = a.words }) q))
+
+-- ---- behind so many fields
+
+module _ (before tag : ℕ) (body room : List ℕ) {seq : ℕ} (numbered : seq ≡ seq_after before) where
+  abbrev pub Ends : Line → List ℕ → Type 0
+  Ends line after = (line ≡ line_of before tag body (length room)) × (after ≡ room_listed tag body room)
+
+  -- a line by that number is the field's
+  pub of_field : {line : Line} {after : List ℕ} → EndsBy seq tag body room line after → Ends line after
+  unfolding line_of
+  of_field both = (both.0 ∙ ap (λ (n : ℕ). line_by n tag body (length room)) numbered, both.1)
+
+  pub other_tag : {line : Line} → (tag ≡ 1 → ⊥) → line ≡ refused_line seq 15 → Ends line room
+  other_tag f l =
+      let both = other_tag_by seq tag body room f in of_field (l ∙ both.0, both.1)
+
+  pub block_refused : {line : Line} {a : Answer} {after : List ℕ} → tag ≡ 1 → a ≡ answer_of body (length room) → after ≡ room_after body room
+      → (a.number ≡ 0 → ⊥) → line ≡ refused_line seq a.number → Ends line after
+  block_refused t e r f l =
+      let both = block_refused_by seq tag body room t e r f in of_field (l ∙ both.0, both.1)
+
+  pub block_listed : {a : Answer} {p : PlanAnswer} {after : List ℕ} → tag ≡ 1 → a ≡ answer_of body (length room) → after ≡ room_after body room
+      → a.number ≡ 0 → p ≡ plan_of a.header → Ends (record { seq = seq; answer = 0; block = p.block; version = p.version; words = a.words }) after
+  block_listed t e r z q = of_field (block_listed_by seq tag body room t e r z q)
