@@ -40,12 +40,14 @@ struct Names<'a> {
     out: &'a [u8],
 }
 
-// What ends a salvage: a call that failed, by what it was for, or an input that grew.
+// What ends a salvage: a call that failed, by what it was for, or an input that grew. A new file that has not the whole recording is still
+// open in it.
 #[derive(Drop)]
 enum Failure {
     Input(io::Error),
     Grown,
     Part(io::Error),
+    Unfilled(File, io::Error),
     Out(io::Error),
     Output(io::Error),
 }
@@ -104,31 +106,25 @@ fn part_name(out: &[u8], name: &mut [u8]) -> usize
     text::put_part(b".part", name, end)
 }
 
-// All of the recording, as far as the disk. The file is closed behind it, which std says nothing of.
-fn fill(mut file: File, recording: &[u8]) -> io::Result<()> {
+// All of the recording, as far as the disk.
+fn write_through(file: &mut File, recording: &[u8]) -> io::Result<()> {
     file.write_all(recording)?;
     file.sync_all()
 }
 
-// The recording in the new file, which then takes OUT's name.
-fn put_in_place(
-    rt: &HostRuntime,
-    file: File,
-    recording: &[u8],
-    names: Names,
-) -> Result<(), Failure> {
-    fill(file, recording).map_err(|error| Failure::Part(error))?;
-    program::rename(rt, names.part, names.out).map_err(|error| Failure::Out(error))
+// All of the recording in the new file, which is closed behind it; std says nothing of that.
+fn fill(mut file: File, recording: &[u8]) -> Result<(), Failure> {
+    match write_through(&mut file, recording) {
+        Ok(()) => Ok(()),
+        Err(error) => Err(Failure::Unfilled(file, error)),
+    }
 }
 
-// The recording in a new file beside OUT, which then takes its name. Where anything fails, OUT is as it was and the new file is gone.
+// The recording in a new file beside OUT, which then takes its name. Where anything fails, OUT is as it was.
 fn save(rt: &HostRuntime, recording: &[u8], names: Names) -> Result<(), Failure> {
     let file = program::create(rt, names.part).map_err(|error| Failure::Part(error))?;
-    let saved = put_in_place(rt, file, recording, names);
-    if saved.is_err() {
-        program::unlink(rt, names.part);
-    }
-    saved
+    fill(file, recording)?;
+    program::rename(rt, names.part, names.out).map_err(|error| Failure::Out(error))
 }
 
 // The recording, and then the report: nothing is printed of what was not written.
@@ -199,33 +195,44 @@ fn salvage_from<R: Read>(rt: &HostRuntime, file: &mut R, names: Names) -> Result
     salvage_bytes(rt, &input[..got], names)
 }
 
-fn salvage_file(rt: &HostRuntime, names: Names) -> Result<(), Failure> {
-    let opened = program::open_read(rt, names.input);
-    let mut file = opened.map_err(|error| Failure::Input(error))?;
-    salvage_from(rt, &mut file, names)
-}
-
+// Standard error says why a salvage failed. Where a new file was made that could not take OUT's name, it is removed behind that.
 fn say_failure(rt: &HostRuntime, names: Names, failure: Failure) {
     match failure {
         Failure::Input(error) => program::fail(rt, names.input, error),
         Failure::Grown => program::say(rt, b"the input grew while it was read\n"),
         Failure::Part(error) => program::fail(rt, names.part, error),
-        Failure::Out(error) => program::fail(rt, names.out, error),
+        Failure::Unfilled(file, error) => {
+            program::fail(rt, names.part, error);
+            drop(file);
+            program::unlink(rt, names.part);
+        }
+        Failure::Out(error) => {
+            program::fail(rt, names.out, error);
+            program::unlink(rt, names.part);
+        }
         Failure::Output(error) => program::fail(rt, b"standard output", error),
     }
 }
 
-// Salvages; where that fails, standard error says why.
+// Salvages; where that fails, standard error says why, and the input is closed behind that.
+fn salvage_file(rt: &HostRuntime, names: Names) {
+    match program::open_read(rt, names.input) {
+        Ok(mut file) => {
+            if let Err(failure) = salvage_from(rt, &mut file, names) {
+                say_failure(rt, names, failure);
+            }
+        }
+        Err(error) => say_failure(rt, names, Failure::Input(error)),
+    }
+}
+
 fn salvage(rt: &HostRuntime, input: &[u8], out: &[u8])
     requires { length out.now ≤ 4096 }
 {
     let mut room = [0u8; PART_BYTES];
     let end = part_name(out, &mut room);
     let part = &room[..end];
-    let names = Names { input, part, out };
-    if let Err(failure) = salvage_file(rt, names) {
-        say_failure(rt, names, failure);
-    }
+    salvage_file(rt, Names { input, part, out });
 }
 
 // Word i, one of the two names, in the room; where it has not the whole, standard error says why.
