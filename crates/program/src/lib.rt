@@ -1,8 +1,9 @@
 // What the programs ask of the system: their words, files by names of bytes, input to its end, and what is said where a call fails.
 #![tactic(auto)]
 
-ghost use Rattle.std.specs.Prelude.{◌≤◌, length};
+ghost use Rattle.std.specs.Prelude.{◌≡◌, ◌≤◌, IsErrAnd, MatchResult, OnOk, length};
 ghost use Rattle.std.specs.Io.{ReadsAtMost};
+ghost use Rattle.program.specs.Names.{IsText, SaysNoText};
 
 use std::env::{Env, FillError};
 use std::fs::{File, OpenOptions};
@@ -42,23 +43,37 @@ pub fn arg_count(rt: &HostRuntime) -> usize {
     usize::MAX
 }
 
-fn path(name: &[u8]) -> io::Result<&str> {
+fn path(name: &[u8]) -> io::Result<&str>
+    ensures { MatchResult result (λ path. (path.now ≡ name.now) × IsText name.now)
+        (λ error. ¬ (IsText name.now) × SaysNoText error) }
+{
     std::str::from_utf8(name).map_err(|_| Error::from_raw_os_error(NO_TEXT))
 }
 
-pub fn open_read(rt: &HostRuntime, name: &[u8]) -> io::Result<File> {
+pub fn open_read(rt: &HostRuntime, name: &[u8]) -> io::Result<File>
+    ensures text { OnOk result (IsText name.now) }
+    ensures no_text { ¬ (IsText name.now) → IsErrAnd result SaysNoText }
+{
     File::open(rt, path(name)?)
 }
 
 // A new file, for writing; it fails where the name is taken.
-pub fn create(rt: &HostRuntime, name: &[u8]) -> io::Result<File> {
+pub fn create(rt: &HostRuntime, name: &[u8]) -> io::Result<File>
+    ensures text { OnOk result (IsText name.now) }
+    ensures no_text { ¬ (IsText name.now) → IsErrAnd result SaysNoText }
+{
     OpenOptions::new()
         .write(true)
         .create_new(true)
         .open(rt, path(name)?)
 }
 
-pub fn rename(rt: &HostRuntime, from: &[u8], to: &[u8]) -> io::Result<()> {
+pub fn rename(rt: &HostRuntime, from: &[u8], to: &[u8]) -> io::Result<()>
+    ensures from_text { OnOk result (IsText from.now) }
+    ensures to_text { OnOk result (IsText to.now) }
+    ensures from_no_text { ¬ (IsText from.now) → IsErrAnd result SaysNoText }
+    ensures to_no_text { ¬ (IsText to.now) → IsErrAnd result SaysNoText }
+{
     fs::rename(rt, path(from)?, path(to)?)
 }
 
